@@ -1,0 +1,73 @@
+-- Every second group of four bits complemented is xor with F0 in each byte: eight bits at a time.
+-- Assumes nothing.
+use mathlib.Core.Path.{_≡_, refl, sym, ap, ap₂, _∙_}
+use mathlib.Core.Bool.{Bool, true, not}
+use mathlib.Core.List.{[], _∷_, _++_, map, flatMap, zipWith}
+use Prim.Native.Nat.{ℕ, zero, suc, _*_, _/_, _≤_}
+use native.Mathlib.Omega.{arith}
+use lib.ListN.{length, take, drop, replicate, length-drop, length-replicate, take-append-drop}
+use lib.Seq.{drop-drop, length-take-le}
+use Rattle.bits.specs.Str.{Bits, digit, bitsN, bytesBits, zeros, xorB, halvesFlipped, everySecond}
+use Rattle.bits.proofs.Strings.{xor-true, xorB-append, xorB-zeros, length-zeros, length-xorB, xorB-twice}
+use Rattle.bits.proofs.Packed.{length-bytesBits}
+
+xorB-ones : (w : Bits) → xorB w (replicate (length w) true) ≡ map not w
+unfolding xorB zipWith
+xorB-ones [] = refl
+xorB-ones (b ∷ w) = ap₂ (λ (c : Bool) (v : Bits). c ∷ v) (xor-true b) (xorB-ones w)
+
+module _ (w rest : Bits) (h : 8 ≤ length w) where
+  four-ones : xorB (take 4 w) (replicate 4 true) ≡ map not (take 4 w)
+  four-ones = ap (λ (n : ℕ). xorB (take 4 w) (replicate n true)) (sym (length-take-le 4 w (omega arith))) ∙ xorB-ones (take 4 w)
+
+  four-zeros : xorB (take 4 (drop 4 w)) (zeros 4) ≡ take 4 (drop 4 w)
+  four-zeros =
+      ap (λ (n : ℕ). xorB (take 4 (drop 4 w)) (zeros n)) (sym (length-take-le 4 (drop 4 w) (omega (arith, length-drop 4 w))))
+      ∙ xorB-zeros (take 4 (drop 4 w))
+
+  in-parts : w ≡ take 4 w ++ (take 4 (drop 4 w) ++ drop 8 w)
+  in-parts =
+      sym (ap (λ (v : Bits). take 4 w ++ v) (ap (λ (v : Bits). take 4 (drop 4 w) ++ v) (sym (drop-drop 4 4 w)) ∙ take-append-drop 4 (drop 4 w))
+      ∙ take-append-drop 4 w)
+
+  xor-parts : xorB w (replicate 4 true ++ (zeros 4 ++ rest)) ≡ map not (take 4 w) ++ (take 4 (drop 4 w) ++ xorB (drop 8 w) rest)
+  xor-parts =
+      ap (λ (v : Bits). xorB v (replicate 4 true ++ (zeros 4 ++ rest))) in-parts
+      ∙ xorB-append (take 4 w) (take 4 (drop 4 w) ++ drop 8 w) (replicate 4 true) (zeros 4 ++ rest) (length-take-le 4 w (omega arith))
+      ∙ ap₂ (λ (u v : Bits). u ++ v) four-ones
+      (xorB-append (take 4 (drop 4 w)) (drop 8 w) (zeros 4) rest (length-take-le 4 (drop 4 w) (omega (arith, length-drop 4 w)) ∙ sym (length-zeros 4))
+      ∙ ap (λ (v : Bits). v ++ xorB (drop 8 w) rest) four-zeros)
+
+none : (w : Bits) → length w ≡ 0 → w ≡ []
+none [] h = refl
+none (b ∷ w) h = absurd (omega arith)
+
+halvesFlipped-xor : (n : ℕ) (w : Bits) → length w ≡ 8 * n → halvesFlipped n w ≡ xorB w (bytesBits (replicate n 0xf0))
+unfolding halvesFlipped bytesBits flatMap xorB zipWith bitsN digit zeros
+halvesFlipped-xor zero w h = ap (λ (v : Bits). xorB v []) (sym (none w (omega arith)))
+halvesFlipped-xor (suc n) w h =
+    ap (λ (v : Bits). map not (take 4 w) ++ (take 4 (drop 4 w) ++ v)) (halvesFlipped-xor n (drop 8 w) (omega (arith, length-drop 8 w)))
+    ∙ sym (xor-parts w (bytesBits (replicate n 0xf0)) (omega arith)) ∙ ap (λ (v : Bits). xorB w (v ++ bytesBits (replicate n 0xf0))) byte
+  where
+    byte : replicate 4 true ++ zeros 4 ≡ bitsN 8 0xf0
+    byte = refl
+
+pub everySecond-xor : (w : Bits) (n : ℕ) → length w ≡ 8 * n → everySecond w ≡ xorB w (bytesBits (replicate n 0xf0))
+unfolding everySecond
+everySecond-xor w n h = ap (λ (m : ℕ). halvesFlipped m w) eighth ∙ halvesFlipped-xor n w h
+  where
+    eighth : length w / 8 ≡ n
+    eighth = omega arith
+
+module _ (w : Bits) (n : ℕ) (h : length w ≡ 8 * n) where
+  groups-long : length w ≡ length (bytesBits (replicate n 0xf0))
+  groups-long = omega (arith, length-bytesBits (replicate n 0xf0), length-replicate {A = ℕ} n 0xf0)
+
+  pub length-everySecond : length (everySecond w) ≡ length w
+  length-everySecond = ap length (everySecond-xor w n h) ∙ length-xorB w (bytesBits (replicate n 0xf0)) groups-long
+
+  -- done twice, it is undone
+  pub everySecond-twice : everySecond (everySecond w) ≡ w
+  everySecond-twice =
+      everySecond-xor (everySecond w) n (length-everySecond ∙ h)
+      ∙ ap (λ (v : Bits). xorB v (bytesBits (replicate n 0xf0))) (everySecond-xor w n h) ∙ xorB-twice w (bytesBits (replicate n 0xf0)) groups-long

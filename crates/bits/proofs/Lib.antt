@@ -1,0 +1,10 @@
+pub mod Lists
+pub mod Numbers
+pub mod Strings
+pub mod Packed
+pub mod Shifts
+pub mod Groups
+pub mod Choice
+pub mod Faults
+pub mod Same
+pub mod Unique

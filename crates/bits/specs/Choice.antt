@@ -1,0 +1,20 @@
+-- A choice by a test, and the first of several faults in a given order: every ordered list of refusals is one of these.
+-- Assumes nothing.
+use mathlib.Core.Bool.{Bool, true, false}
+use mathlib.Core.List.{List, [], _∷_}
+use Prim.Native.Nat.{ℕ}
+
+-- a where the test says yes, else b
+unfoldable pub pick {ℓ} : {A : Type ℓ} → Bool → A → A → A
+pick true a b = a
+pick false a b = b
+
+-- a refusal's number, and whether its fault is there
+infix 70 _given_
+pub data Fault : Type 0 where
+  _given_ : ℕ → Bool → Fault
+
+-- the number of the first fault that is there; 0 where there is none
+unfoldable pub firstOf : List Fault → ℕ
+firstOf [] = 0
+firstOf (n given b ∷ fs) = pick b n (firstOf fs)

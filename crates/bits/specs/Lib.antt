@@ -1,0 +1,3 @@
+pub mod Str
+pub mod Choice
+pub mod Once

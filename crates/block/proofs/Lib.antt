@@ -1,0 +1,5 @@
+pub mod Stored
+pub mod Windows
+pub mod Fronts
+pub mod Equality
+pub mod Unique

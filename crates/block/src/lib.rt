@@ -1,0 +1,182 @@
+// Sixteen bytes by value. One function moves bits, `window`; joining, truncation, turns and doubling are calls of it. Every
+// function but `put` (and `copy`, its inner part) answers every argument.
+ghost use mathlib.Core.Path.{_≡_};
+ghost use mathlib.Core.List.{_++_};
+ghost use Prim.Native.Nat.{_-_, _≤_};
+ghost use lib.ListN.{length, take, drop, getD, replicate};
+ghost use Rattle.bits.specs.Str.{bytesBits, xorB, sameB, rotl, rotr, leftmost, rightmost, filled, double, everySecond};
+ghost use Rattle.block.specs.Block.{front, lastBlock};
+
+// Two blocks, bit by bit.
+pub fn xor(a: [u8; 16], b: [u8; 16]) -> [u8; 16]
+    ensures { λ r. ⌜ bytesBits r ≡ xorB (bytesBits a) (bytesBits b) ⌝ }
+{
+    let mut r = [0u8; 16];
+    let mut i: usize = 0;
+    while i < 16 {
+        r[i] = a[i] ^ b[i];
+        i += 1;
+    }
+    r
+}
+
+// The byte at place j, where a and b stand side by side, and 0 past both.
+fn byte_at(a: [u8; 16], b: [u8; 16], j: usize) -> u8
+    ensures { λ r. ⌜ r ≡ getD (a ++ b) j 0 ⌝ }
+{
+    if j < 16 {
+        return a[j];
+    }
+    if j < 32 {
+        return b[j - 16];
+    }
+    0
+}
+
+// The block that stands s bits in, where a and b stand side by side; b itself where s is 128 or more.
+pub fn window(a: [u8; 16], b: [u8; 16], s: usize) -> [u8; 16]
+    ensures { λ r. ⌜ bytesBits r ≡ drop s (bytesBits a) ++ take s (bytesBits b) ⌝ }
+{
+    if 128 <= s {
+        return b;
+    }
+    let q = s / 8;
+    let p = (s % 8) as u32;
+    let mut r = [0u8; 16];
+    let mut i: usize = 0;
+    while i < 16 {
+        r[i] = bits::funnel(byte_at(a, b, q + i), byte_at(a, b, q + i + 1), p);
+        i += 1;
+    }
+    r
+}
+
+// The first n bits of a, and then b from its start; a itself where n is 128 or more.
+pub fn join(a: [u8; 16], n: usize, b: [u8; 16]) -> [u8; 16]
+    ensures { λ r. ⌜ bytesBits r ≡ take n (bytesBits a) ++ take (128 - n) (bytesBits b) ⌝ }
+{
+    if 128 <= n {
+        return a;
+    }
+    window(window([0u8; 16], a, n), b, 128 - n)
+}
+
+// The leftmost m bits, and zeros after them.
+pub fn leftmost(b: [u8; 16], m: usize) -> [u8; 16]
+    ensures { λ r. ⌜ bytesBits r ≡ filled 128 (leftmost m (bytesBits b)) ⌝ }
+{
+    join(b, m, [0u8; 16])
+}
+
+// The rightmost m bits moved to the left, and zeros after them.
+pub fn rightmost(b: [u8; 16], m: usize) -> [u8; 16]
+    ensures { λ r. ⌜ bytesBits r ≡ filled 128 (rightmost m (bytesBits b)) ⌝ }
+{
+    if 128 <= m {
+        return b;
+    }
+    window(b, [0u8; 16], 128 - m)
+}
+
+// Rotated left by one bit.
+pub fn turn_left(b: [u8; 16]) -> [u8; 16]
+    ensures { λ r. ⌜ bytesBits r ≡ rotl 1 (bytesBits b) ⌝ }
+{
+    window(b, b, 1)
+}
+
+// Rotated right by one bit.
+pub fn turn_right(b: [u8; 16]) -> [u8; 16]
+    ensures { λ r. ⌜ bytesBits r ≡ rotr 1 (bytesBits b) ⌝ }
+{
+    window(b, b, 127)
+}
+
+// Doubled: shifted left by one, and 87 put into the last byte where the bit shifted out was 1.
+pub fn double(b: [u8; 16]) -> [u8; 16]
+    ensures { λ r. ⌜ bytesBits r ≡ double 0x87 (bytesBits b) ⌝ }
+{
+    let w = window(b, [0u8; 16], 1);
+    if b[0] < 128 {
+        return w;
+    }
+    xor(w, [0, 0, 0, 0, 0, 0, 0, 0, 0, 0, 0, 0, 0, 0, 0, 0x87])
+}
+
+// Every second group of four bits complemented, beginning with the first.
+pub fn every_second(b: [u8; 16]) -> [u8; 16]
+    ensures { λ r. ⌜ bytesBits r ≡ everySecond (bytesBits b) ⌝ }
+{
+    xor(b, [0xf0; 16])
+}
+
+// The first k bytes of a part, and zeros.
+fn copy(s: &[u8], k: usize) -> [u8; 16]
+    requires { ⌜ (k ≤ 16) × (k ≤ length (now s)) ⌝ }
+    ensures { λ r. ⌜ r ≡ take k (now (s .entry)) ++ drop k (replicate 16 0) ⌝ }
+{
+    let mut r = [0u8; 16];
+    let mut i: usize = 0;
+    while i < k {
+        r[i] = s[i];
+        i += 1;
+    }
+    r
+}
+
+// A block from the front of a part: sixteen bytes, or fewer and zeros.
+pub fn front(s: &[u8]) -> [u8; 16]
+    ensures { λ r. ⌜ r ≡ front (now (s .entry)) ⌝ }
+{
+    if s.len() < 16 {
+        return copy(s, s.len());
+    }
+    copy(s, 16)
+}
+
+// The last block of a message whose tail has so many bits: filled with zeros, or, where it is marked, with a one and zeros.
+pub fn last_block(tail: &[u8], bits: usize, marked: bool) -> [u8; 16]
+    ensures { λ r. ⌜ bytesBits r ≡ lastBlock (now (tail .entry)) bits marked ⌝ }
+{
+    let t = front(tail);
+    if marked {
+        return join(t, bits, [0x80, 0, 0, 0, 0, 0, 0, 0, 0, 0, 0, 0, 0, 0, 0, 0]);
+    }
+    join(t, bits, [0u8; 16])
+}
+
+// Whether two parts hold the same bytes, and equally many.
+pub fn equal_bytes(a: &[u8], b: &[u8]) -> bool
+    ensures { λ r. ⌜ r ≡ sameB (bytesBits (now (a .entry))) (bytesBits (now (b .entry))) ⌝ }
+{
+    if a.len() != b.len() {
+        return false;
+    }
+    let mut i: usize = 0;
+    while i < a.len() {
+        if a[i] != b[i] {
+            return false;
+        }
+        i += 1;
+    }
+    true
+}
+
+// Whether two blocks are the same.
+pub fn equal(a: [u8; 16], b: [u8; 16]) -> bool
+    ensures { λ r. ⌜ r ≡ sameB (bytesBits a) (bytesBits b) ⌝ }
+{
+    equal_bytes(&a, &b)
+}
+
+// Puts the first n bytes of a block into the room.
+pub fn put(block: [u8; 16], n: usize, room: &mut [u8])
+    requires { ⌜ (n ≤ 16) × (n ≤ length (now room)) ⌝ }
+    ensures { λ _. ⌜ now (room .exit) ≡ take n block ++ drop n (now (room .entry)) ⌝ }
+{
+    let mut i: usize = 0;
+    while i < n {
+        room[i] = block[i];
+        i += 1;
+    }
+}

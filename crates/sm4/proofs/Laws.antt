@@ -1,0 +1,241 @@
+-- What the functions' proofs cite: a block is four words of 32 bits, and the code's arrays, written out element by element,
+-- are those words; one round more is one key more at the end.
+-- Assumes nothing.
+use mathlib.Core.Path.{_≡_, refl, sym, ap, ap₂, _∙_, subst}
+use mathlib.Core.List.{List, [], _∷_, _++_, flatMap, append-nil, reverse, reverse-cons}
+use Prim.Native.Nat.{ℕ, zero, suc, _+_, _-_, _≤_, _<_}
+use native.Mathlib.Nat.{zero-add, add-zero, add-suc, suc-add}
+use native.Mathlib.Numerals.{add-one}
+use native.Mathlib.Omega.{arith}
+use lib.Bits.{bitXor}
+use lib.ListN.{length, take, drop, getD, set, length-map}
+use lib.Seq.{take-at, drop-at, take-suc, take-suc-set, take-all, drop-cons, drop-drop}
+use Rattle.bits.specs.Str.{Bits, bitsN, bytesBits, words, xorB}
+use Rattle.bits.proofs.Numbers.{length-bitsN, numOf-fit}
+use Rattle.bits.proofs.Strings.{take-xorB, drop-xorB, bitsN-xor}
+use Rattle.bits.proofs.Packed.{bytesBits-append, words-set, spread, spread-all}
+use Rattle.bits.proofs.Same.{Bytes}
+use Rattle.sm4.specs.Table.{sbox, table, CK, CKs}
+use Rattle.sm4.specs.Cipher.{Quad, quad, flat, four, Sbox, τ, F, round, rounds, made, R}
+
+-- ---- four words of 32 bits, and a block
+
+pub record Long (X : Quad) : Type 0 where
+  pub l0 : length (X .x0) ≡ 32
+  pub l1 : length (X .x1) ≡ 32
+  pub l2 : length (X .x2) ≡ 32
+  pub l3 : length (X .x3) ≡ 32
+
+pub quad-flat : (X : Quad) → Long X → quad (flat X) ≡ X
+unfolding quad flat
+quad-flat X h = λ i. record { x0 = e0 i; x1 = e1 i; x2 = e2 i; x3 = e3 i }
+  where
+    d1 : drop 32 (flat X) ≡ X .x1 ++ (X .x2 ++ X .x3)
+    d1 = drop-at (X .x0) (X .x1 ++ (X .x2 ++ X .x3)) 32 (h .l0)
+
+    d2 : drop 64 (flat X) ≡ X .x2 ++ X .x3
+    d2 = sym (drop-drop 32 32 (flat X)) ∙ ap (drop 32) d1 ∙ drop-at (X .x1) (X .x2 ++ X .x3) 32 (h .l1)
+
+    d3 : drop 96 (flat X) ≡ X .x3
+    d3 = sym (drop-drop 32 64 (flat X)) ∙ ap (drop 32) d2 ∙ drop-at (X .x2) (X .x3) 32 (h .l2)
+
+    e0 : take 32 (flat X) ≡ X .x0
+    e0 = take-at (X .x0) (X .x1 ++ (X .x2 ++ X .x3)) 32 (h .l0)
+
+    e1 : take 32 (drop 32 (flat X)) ≡ X .x1
+    e1 = ap (take 32) d1 ∙ take-at (X .x1) (X .x2 ++ X .x3) 32 (h .l1)
+
+    e2 : take 32 (drop 64 (flat X)) ≡ X .x2
+    e2 = ap (take 32) d2 ∙ take-at (X .x2) (X .x3) 32 (h .l2)
+
+    e3 : take 32 (drop 96 (flat X)) ≡ X .x3
+    e3 = ap (take 32) d3 ∙ take-all 32 (X .x3) (omega (arith, h .l3))
+
+-- ---- a list's words
+
+words-at : (xs : List ℕ) (i : ℕ) → i < length xs → getD (words xs) i [] ≡ bitsN 32 (getD xs i 0)
+unfolding words
+words-at [] i h = absurd (omega arith)
+words-at (x ∷ xs) zero h = refl
+words-at (x ∷ xs) (suc i) h = words-at xs i (omega arith)
+
+module _ (xs : List ℕ) (h : length xs ≡ 4) where
+  four-words : four (words xs)
+      ≡ record { x0 = bitsN 32 (getD xs 0 0); x1 = bitsN 32 (getD xs 1 0); x2 = bitsN 32 (getD xs 2 0); x3 = bitsN 32 (getD xs 3 0) }
+  unfolding four
+  four-words =
+      let h0 = words-at xs 0 (omega arith) in
+      let h1 = words-at xs 1 (omega arith) in
+      let h2 = words-at xs 2 (omega arith) in
+      let h3 = words-at xs 3 (omega arith) in
+      λ i. record { x0 = h0 i; x1 = h1 i; x2 = h2 i; x3 = h3 i }
+
+  long-words : Long (four (words xs))
+  long-words =
+      subst Long (sym four-words)
+      (record { l0 = length-bitsN 32 _; l1 = length-bitsN 32 _; l2 = length-bitsN 32 _; l3 = length-bitsN 32 _ })
+
+-- ---- sixteen bytes as four words, and back
+
+packed : (a b c d : List ℕ) (X : Quad) → bytesBits a ≡ X .x0 → bytesBits b ≡ X .x1 → bytesBits c ≡ X .x2 → bytesBits d ≡ X .x3
+    → bytesBits (a ++ (b ++ (c ++ d))) ≡ flat X
+unfolding flat
+packed a b c d X ha hb hc hd = simp bytesBits-append (cc)
+
+pub loaded : (b : List ℕ) (x y z w : ℕ) → length b ≡ 16
+    → bitsN 32 x ≡ bytesBits (spread 4 0 b) → bitsN 32 y ≡ bytesBits (spread 4 4 b)
+    → bitsN 32 z ≡ bytesBits (spread 4 8 b) → bitsN 32 w ≡ bytesBits (spread 4 12 b)
+    → four (words (x ∷ y ∷ z ∷ w ∷ [])) ≡ quad (bytesBits b)
+unfolding four words spread
+loaded b x y z w h hx hy hz hw =
+    let X = four (words (x ∷ y ∷ z ∷ w ∷ [])) in
+    let whole = packed (spread 4 0 b) (spread 4 4 b) (spread 4 8 b) (spread 4 12 b) X (sym hx) (sym hy) (sym hz) (sym hw) in
+    sym (quad-flat X (long-words (x ∷ y ∷ z ∷ w ∷ []) refl)) ∙ ap quad (sym whole ∙ ap bytesBits (spread-all 16 b h))
+
+pub stored : (x a b c d : List ℕ) → length x ≡ 4 → length a ≡ 4 → length b ≡ 4 → length c ≡ 4 → length d ≡ 4
+    → bytesBits a ≡ bitsN 32 (getD x 3 0) → bytesBits b ≡ bitsN 32 (getD x 2 0)
+    → bytesBits c ≡ bitsN 32 (getD x 1 0) → bytesBits d ≡ bitsN 32 (getD x 0 0)
+    → bytesBits (spread 4 0 a ++ (spread 4 0 b ++ (spread 4 0 c ++ spread 4 0 d))) ≡ flat (R (four (words x)))
+unfolding R four
+stored x a b c d hx ha hb hc hd ea eb ec ed =
+    packed (spread 4 0 a) (spread 4 0 b) (spread 4 0 c) (spread 4 0 d) (R (four (words x)))
+    (word 3 (omega arith) a ha ea) (word 2 (omega arith) b hb eb) (word 1 (omega arith) c hc ec) (word 0 (omega arith) d hd ed)
+  where
+    word : (i : ℕ) → i < length x → (a : List ℕ) → length a ≡ 4 → bytesBits a ≡ bitsN 32 (getD x i 0)
+        → bytesBits (spread 4 0 a) ≡ getD (words x) i []
+    word i h a ha e = cc (spread-all 4 a ha, words-at x i h)
+
+-- ---- the bytes of a word through the table
+
+Sbox-byte : (n : ℕ) → n < 256 → Sbox (bitsN 8 n) ≡ bitsN 8 (getD table n 0)
+unfolding Sbox table
+Sbox-byte n h = ap (λ (m : ℕ). bitsN 8 (getD sbox m 0)) (numOf-fit 8 n h)
+
+τ-bytes : (a b c d : ℕ) → τ (bytesBits (a ∷ b ∷ c ∷ d ∷ [])) ≡ Sbox (bitsN 8 a) ++ (Sbox (bitsN 8 b) ++ (Sbox (bitsN 8 c) ++ Sbox (bitsN 8 d)))
+unfolding τ bytesBits flatMap bitsN
+τ-bytes a b c d = refl
+
+pub byte-below : (b : List ℕ) → Bytes 4 b → (i : ℕ) → getD b i 0 < 256
+byte-below b h i = h .each i .fits
+
+pub substituted : (t b : List ℕ) → t ≡ table → Bytes 4 b
+    → bytesBits (getD t (getD b 0 0) 0 ∷ getD t (getD b 1 0) 0 ∷ getD t (getD b 2 0) 0 ∷ getD t (getD b 3 0) 0 ∷ []) ≡ τ (bytesBits b)
+unfolding bytesBits flatMap spread
+substituted t b e h =
+    cc (
+      append-nil (bitsN 8 (getD table (getD b 3 0) 0)),
+      spread-all 4 b (h .long),
+      τ-bytes (getD b 0 0) (getD b 1 0) (getD b 2 0) (getD b 3 0),
+      Sbox-byte (getD b 0 0) (byte-below b h 0),
+      Sbox-byte (getD b 1 0) (byte-below b h 1),
+      Sbox-byte (getD b 2 0) (byte-below b h 2),
+      Sbox-byte (getD b 3 0) (byte-below b h 3),
+    )
+
+-- ---- a round as the code makes it, and one round more
+
+pub rounded : (t : Bits → Bits) (x : List ℕ) (k m : ℕ) → length x ≡ 4
+    → bitsN 32 m ≡ t (bitsN 32 (bitXor (bitXor (bitXor (getD x 1 0) (getD x 2 0)) (getD x 3 0)) k))
+    → four (words (getD x 1 0 ∷ getD x 2 0 ∷ getD x 3 0 ∷ bitXor (getD x 0 0) m ∷ [])) ≡ round t (four (words x)) (bitsN 32 k)
+unfolding round F four words
+rounded t x k m h e =
+    (λ i. record { x0 = bitsN 32 (getD x 1 0); x1 = bitsN 32 (getD x 2 0); x2 = bitsN 32 (getD x 3 0); x3 = last i })
+    ∙ sym (ap (λ (X : Quad). round t X (bitsN 32 k)) (four-words x h))
+  where
+    last : bitsN 32 (bitXor (getD x 0 0) m)
+        ≡ xorB (bitsN 32 (getD x 0 0)) (t (xorB (xorB (xorB (bitsN 32 (getD x 1 0)) (bitsN 32 (getD x 2 0))) (bitsN 32 (getD x 3 0))) (bitsN 32 k)))
+    last = bitsN-xor 32 (getD x 0 0) m ∙ ap (xorB (bitsN 32 (getD x 0 0))) (simp bitsN-xor at e)
+
+pub rounds-snoc : (t : Bits → Bits) (X : Quad) (ks : List Bits) (k : Bits) → rounds t X (ks ++ (k ∷ [])) ≡ round t (rounds t X ks) k
+unfolding rounds
+rounds-snoc t X [] k = refl
+rounds-snoc t X (j ∷ ks) k = rounds-snoc t (round t X j) ks k
+
+made-snoc : (t : Bits → Bits) (X : Quad) (ks : List Bits) (k : Bits) → made t X (ks ++ (k ∷ [])) ≡ made t X ks ++ (F t (rounds t X ks) k ∷ [])
+unfolding rounds made
+made-snoc t X [] k = refl
+made-snoc t X (j ∷ ks) k = ap (λ (l : List Bits). F t X j ∷ l) (made-snoc t (round t X j) ks k)
+
+-- what the code writes is the last word of the new state
+pub made-more : (t : Bits → Bits) (X : Quad) (ks : List Bits) (k : Bits) (y r : List ℕ) (i : ℕ) → length y ≡ 4 → i < length r
+    → four (words y) ≡ round t (rounds t X ks) k → words (take i r) ≡ made t X ks
+    → words (take (i + 1) (set r i (getD y 3 0))) ≡ made t X (ks ++ (k ∷ []))
+unfolding four round
+made-more t X ks k y r i hy hr new before =
+    words-set r i (getD y 3 0) hr
+    ∙ ap₂ (λ (ws : List Bits) (w : Bits). ws ++ (w ∷ [])) before (sym (words-at y 3 (omega arith)) ∙ ap (λ (Y : Quad). Y .x3) new)
+    ∙ sym (made-snoc t X ks k)
+
+-- ---- the constants of the key expansion
+
+CKs-at : (n i j : ℕ) → j < n → getD (CKs n i) j [] ≡ CK (i + j)
+unfolding CKs
+CKs-at zero i j h = absurd (omega arith)
+CKs-at (suc n) i zero h = ap CK (sym (add-zero i))
+CKs-at (suc n) i (suc j) h = CKs-at n (suc i) j (omega arith) ∙ ap CK (suc-add i j ∙ sym (add-suc i j))
+
+pub length-CKs : length (CKs 32 0) ≡ 32
+unfolding CKs
+length-CKs = refl
+
+module _ (i : ℕ) (below : i < 32) where
+  ith : getD (CKs 32 0) i [] ≡ CK i
+  ith = CKs-at 32 0 i below ∙ ap CK (zero-add i)
+
+  pub CKs-suc : take (i + 1) (CKs 32 0) ≡ take i (CKs 32 0) ++ (CK i ∷ [])
+  CKs-suc =
+      ap (λ (n : ℕ). take n (CKs 32 0)) (add-one i) ∙ take-suc (CKs 32 0) i [] (omega (arith, length-CKs))
+      ∙ ap (λ (w : Bits). take i (CKs 32 0) ++ (w ∷ [])) ith
+
+  -- a table that follows the rule has the ith
+  pub constant-at : (c : List ℕ) → words c ≡ CKs 32 0 → bitsN 32 (getD c i 0) ≡ CK i
+  unfolding words
+  constant-at c e =
+      sym (words-at c i (omega (arith, length-map c (bitsN 32), ap length e, length-CKs)))
+      ∙ ap (λ (ws : List Bits). getD ws i []) e ∙ ith
+
+-- ---- the words that the key expansion starts from
+
+abbrev both : Quad → Quad → Quad
+both X Y = record { x0 = xorB (X .x0) (Y .x0); x1 = xorB (X .x1) (Y .x1); x2 = xorB (X .x2) (Y .x2); x3 = xorB (X .x3) (Y .x3) }
+
+quad-xorB : (u v : Bits) → quad (xorB u v) ≡ both (quad u) (quad v)
+unfolding quad
+quad-xorB u v = λ i. record { x0 = take-xorB 32 u v i; x1 = part 32 i; x2 = part 64 i; x3 = part 96 i }
+  where
+    part : (n : ℕ) → take 32 (drop n (xorB u v)) ≡ xorB (take 32 (drop n u)) (take 32 (drop n v))
+    part n = ap (take 32) (drop-xorB n u v) ∙ take-xorB 32 (drop n u) (drop n v)
+
+pub started : (x y : List ℕ) (key : Bits) → length x ≡ 4 → length y ≡ 4 → four (words x) ≡ quad key
+    → four
+    (words
+    (bitXor (getD x 0 0) (getD y 0 0)
+    ∷ bitXor (getD x 1 0) (getD y 1 0)
+    ∷ bitXor (getD x 2 0) (getD y 2 0)
+    ∷ bitXor (getD x 3 0) (getD y 3 0)
+    ∷ []))
+    ≡ quad (xorB key (flat (four (words y))))
+unfolding four words
+started x y key hx hy e =
+    (λ i. record { x0 = word 0 i; x1 = word 1 i; x2 = word 2 i; x3 = word 3 i })
+    ∙ sym (ap₂ both (sym e ∙ four-words x hx) (quad-flat (four (words y)) (long-words y hy) ∙ four-words y hy))
+    ∙ sym (quad-xorB key (flat (four (words y))))
+  where
+    word : (i : ℕ) → bitsN 32 (bitXor (getD x i 0) (getD y i 0)) ≡ xorB (bitsN 32 (getD x i 0)) (bitsN 32 (getD y i 0))
+    word i = bitsN-xor 32 (getD x i 0) (getD y i 0)
+
+-- ---- a list backwards, one element more
+
+pub back-more : (n i : ℕ) (l r : List ℕ) → length l ≡ suc n → length r ≡ suc n → i ≤ n → take i r ≡ reverse (drop (suc n - i) l)
+    → take (i + 1) (set r i (getD l (n - i) 0)) ≡ reverse (drop (suc n - (i + 1)) l)
+back-more n i l r hl hr h e =
+    let x = getD l (n - i) 0 in
+    ap (λ (m : ℕ). take m (set r i x)) (add-one i) ∙ take-suc-set r i x (omega arith) ∙ ap (λ (u : List ℕ). u ++ (x ∷ [])) e
+    ∙ sym (ap (λ (m : ℕ). reverse (drop m l)) low ∙ ap reverse (drop-cons l (n - i) 0 (omega arith)) ∙ reverse-cons x (drop (suc (n - i)) l)
+    ∙ ap (λ (m : ℕ). reverse (drop m l) ++ (x ∷ [])) high)
+  where
+    low : suc n - (i + 1) ≡ n - i
+    low = omega arith
+
+    high : suc (n - i) ≡ suc n - i
+    high = omega arith

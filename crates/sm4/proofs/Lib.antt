@@ -1,0 +1,5 @@
+pub mod Laws
+pub mod Inverse
+pub mod Example
+pub mod Unique
+pub mod Undone
