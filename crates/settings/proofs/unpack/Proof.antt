@@ -1,0 +1,28 @@
+-- `unpack` meets its contract: field by field, from what the three blocks ensure.
+-- Assumes nothing.
+use mathlib.Core.Path.{ap, _∙_}
+use Rattle.bits.specs.Str.{bytesBits, everySecond}
+use Rattle.settings.specs.Keys.{keyBits, keysOf}
+use borrow.Author.Needs.{needs}
+use Rattle.settings.proofs.unpack.Statement.{statement}
+use Rattle.settings.proofs.unpack.Tie as tie
+
+front-requires : tie.Need-front-requires
+front-requires c κs = search needs
+
+second-requires : tie.Need-second-requires
+second-requires c κs = search needs
+
+every-second-requires : tie.Need-every-second-requires
+every-second-requires c κs = search needs
+
+returns : tie.Need-returns
+unfolding keyBits keysOf
+returns c =
+    let k = ap bytesBits (c .before .before .front .ensures) in
+    let k1 = ap bytesBits (c .before .second .ensures) in
+    let k2 = c .every-second .ensures ∙ ap everySecond k1 in
+    λ i. record { k = k i; k′ = k1 i; k″ = k2 i }
+
+pub unpack-spec : {M : Type 1} → statement M
+unpack-spec = tie.close (tie.spec front-requires second-requires every-second-requires returns)
