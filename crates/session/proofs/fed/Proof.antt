@@ -1,0 +1,50 @@
+-- `fed` meets its contract: what `feed` ensures at the record's keys (`expands`) is the next record (`fed-is`).
+-- Assumes nothing.
+use denote.Ref.{now}
+use Rattle.chain.specs.Chain.{stateAt}
+use Rattle.session.specs.Record.{sessionBits, keysIn, stateIn}
+use Rattle.session.proofs.Answers.{expands, fed-is}
+use borrow.Author.Needs.{needs}
+use Rattle.session.proofs.fed.Statement.{statement}
+use Rattle.session.proofs.fed.Tie as tie
+
+key-bytes-requires : tie.Need-key-bytes-requires
+key-bytes-requires c κs = search needs
+
+table-requires : tie.Need-table-requires
+table-requires c κs = search needs
+
+expand-requires : tie.Need-expand-requires
+expand-requires c κs = search needs
+
+feed-requires : tie.Need-feed-requires
+feed-requires c κs = search needs
+
+add-total : tie.Need-add-total
+add-total c = search needs
+
+phase-at-requires : tie.Need-phase-at-requires
+phase-at-requires c κs = search needs
+
+returns : tie.Need-returns
+unfolding sessionBits stateIn stateAt
+returns c =
+    let at = c .before .before .before .before .before .before .before .before .before .before .before .before .before .before .before .before in
+    let s = at .args .s in
+    let u = c .before .before .before .before .before .before .before .before .before .before .before .before .key-bytes in
+    let feed = c .before .before .before .before .feed in
+    let phase = c .before .before .phase-at in
+    fed-is s (now (at .args .bytes)) (at .args .bits) (feed .result) (phase .result) (at .pre .0)
+    (feed .ensures (keysIn (sessionBits s)) (expands _ _ _ _ (u .result) (u .ensures) (c .before .before .before .before .before .before .expand .ensures))) (phase .ensures)
+
+pub fed-spec : {M : Type 1} → statement M
+fed-spec =
+    tie.close
+    (tie.spec
+    key-bytes-requires
+    table-requires
+    expand-requires
+    feed-requires
+    add-total
+    phase-at-requires
+    returns)
