@@ -1,0 +1,58 @@
+// What the library answers, printed.
+use crate::words;
+use words::print;
+
+fn counted(what: &[u8], calls: usize) {
+    print(what);
+    words::print_number(calls);
+    print(b" calls");
+}
+
+pub(crate) fn print_answer(answer: settings::Answer) {
+    match answer {
+        settings::Answer::Accepted => print(b"accepted"),
+        settings::Answer::Made(calls) => counted(b"made ", calls),
+        settings::Answer::Yes(calls) => counted(b"yes ", calls),
+        settings::Answer::No(calls) => counted(b"no ", calls),
+        settings::Answer::Refused(no) => {
+            print(b"refused ");
+            words::print_number(no);
+        }
+    }
+}
+
+// The room's first bytes after a tag was made; after a refusal, whether each of its bytes is still what it was.
+pub(crate) fn print_room(answer: settings::Answer, size: usize, room: &[u8]) {
+    if let settings::Answer::Made(_) = answer {
+        print(b" ");
+        words::print_bytes(words::first(room, size));
+        return;
+    }
+    if untouched(room) {
+        print(b" untouched");
+        return;
+    }
+    print(b" CHANGED");
+}
+
+fn untouched(room: &[u8]) -> bool {
+    let mut i = 0;
+    while i < room.len() {
+        if room[i] != 0xEE {
+            return false;
+        }
+        i += 1;
+    }
+    true
+}
+
+pub(crate) fn print_phase(phase: session::Phase) {
+    match phase {
+        session::Phase::Closed => print(b", closed"),
+        session::Phase::Edge => print(b", edge"),
+        session::Phase::Part(n) => {
+            print(b", part ");
+            words::print_number(n);
+        }
+    }
+}

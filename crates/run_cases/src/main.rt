@@ -1,0 +1,4 @@
+// Pseudo-random calls, the first part.
+fn main() {
+    cases::run();
+}

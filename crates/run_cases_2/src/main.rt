@@ -1,0 +1,4 @@
+// Pseudo-random calls, the second part.
+fn main() {
+    cases::run();
+}

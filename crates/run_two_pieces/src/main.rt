@@ -1,0 +1,4 @@
+// Annex A as sessions of two pieces, cut at every byte.
+fn main() {
+    cases::run();
+}

@@ -1,0 +1,63 @@
+//! commands call SEED COUNT: pseudo-random make and check lines for the bin `answer`, two for each of COUNT cases.
+//!
+//! A case draws the settings as `cases` does, a message of up to three blocks near their borders, and now and then a wrong
+//! slice length, a far bit count, a room or a tag of another size. The tag offered is the right one, where there is one, in one
+//! case of three with one bit turned, which may be a spare one.
+
+use reference::cases::{Random, Settings, BITS};
+use reference::padding::bytes_for;
+use reference::{hex, make};
+
+fn word(bytes: &[u8]) -> String {
+    if bytes.is_empty() {
+        "-".to_string()
+    } else {
+        hex(bytes)
+    }
+}
+
+fn near(r: &mut Random, count: u64) -> usize {
+    (match r.below(12) {
+        0 => count - 1,
+        1 => count + 1,
+        2 => r.below(25),
+        _ => count,
+    }) as usize
+}
+
+fn call(r: &mut Random) {
+    let s = Settings::draw(r);
+    let mut bits = (128 * r.below(4) + r.below(17)).saturating_sub(8);
+    let mut message = vec![0; bytes_for(bits) as usize];
+    r.fill(&mut message);
+    match r.below(24) {
+        0 => message.push(0x80),
+        1 => drop(message.pop()),
+        2 => bits = BITS[r.below(8) as usize],
+        _ => (),
+    }
+    let room = near(r, s.tag_size());
+    let offered = near(r, s.tag_size());
+    let mut tag = [0xA5; 24];
+    make(s.algorithm, s.padding, s.m, s.keys(), &message, bits, &mut tag);
+    if r.below(3) == 0 {
+        let turn = r.below(8 * s.tag_size()) as usize;
+        tag[turn / 8] ^= 0x80 >> (turn % 8);
+    }
+    let call = format!("{} {} {} {} {} {bits}", s.algorithm, s.padding, s.m, word(s.keys()), word(&message));
+    println!("make {call} {room}");
+    println!("check {call} {}", word(&tag[..offered]));
+}
+
+fn main() {
+    let words: Vec<String> = std::env::args().collect();
+    let number = |i: usize| words.get(i).and_then(|word| word.parse::<u64>().ok());
+    let (Some("call"), Some(seed), Some(count)) = (words.get(1).map(|w| w.as_str()), number(2), number(3))
+    else {
+        return eprintln!("commands call SEED COUNT");
+    };
+    let mut random = Random::new(seed);
+    for _ in 0..count {
+        call(&mut random);
+    }
+}

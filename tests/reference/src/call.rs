@@ -1,0 +1,108 @@
+//! Making and checking a tag in one call, and the refusals 1 to 10.
+
+use crate::mac::{self, alternate, key_at, two_keys};
+use crate::padding::{self, bytes_for};
+use crate::sm4::Block;
+
+/// The most bits a message may have.
+pub const LIMIT: u64 = 8_388_608;
+
+/// `number` is 0 or the refusal's. `yes` is 1 for a tag made or found right; a tag found wrong is
+/// number 0, yes 0, with its calls. A refusal has yes 0 and calls 0.
+#[derive(Clone, Copy, Debug, Default, PartialEq, Eq)]
+pub struct Answer {
+    pub number: u64,
+    pub yes: u64,
+    pub calls: u64,
+}
+
+impl Answer {
+    pub fn refused(number: u64) -> Answer {
+        Answer { number, yes: 0, calls: 0 }
+    }
+}
+
+/// The first of refusals 1 to 6 that applies, or 0.
+pub fn settings_refusal(algorithm: u64, padding: u64, m: u64, keys: &[u8]) -> u64 {
+    if !(1..=8).contains(&algorithm) {
+        return 1;
+    }
+    if !mac::padding_fits(algorithm, padding) {
+        return 2;
+    }
+    if !(1..=mac::m_limit(algorithm)).contains(&m) {
+        return 3;
+    }
+    if keys.len() != if two_keys(algorithm) { 32 } else { 16 } {
+        return 4;
+    }
+    if !two_keys(algorithm) || algorithm == 3 {
+        return 0;
+    }
+    let (k, k1) = (key_at(keys, 0), key_at(keys, 1));
+    if k == k1 || algorithm == 4 && k == alternate(&k1) {
+        return 5;
+    }
+    if algorithm == 4 && k1 == alternate(&k1) {
+        return 6; // never: K'' differs from K' in every byte
+    }
+    0
+}
+
+/// The tag (its first ⌈m/8⌉ bytes), ⌈m/8⌉ and the calls, or the first refusal of 1 to 10.
+fn tag_of(
+    (algorithm, padding, m): (u64, u64, u64),
+    keys: &[u8],
+    message: &[u8],
+    bits: u64,
+    length_fits: impl Fn(usize) -> bool,
+) -> Result<(Block, usize, u64), u64> {
+    let size = bytes_for(m) as usize;
+    let number = match settings_refusal(algorithm, padding, m, keys) {
+        0 if message.len() as u64 != bytes_for(bits) => 7,
+        0 if bits > LIMIT => 8,
+        0 if algorithm == 4 && padding::q(padding, bits) < 2 => 9,
+        0 if !length_fits(size) => 10,
+        number => number,
+    };
+    if number != 0 {
+        return Err(number);
+    }
+    let (g, calls) = mac::output(algorithm, padding, keys, message, bits);
+    Ok((mac::truncate(algorithm, m, bits, &g), size, calls))
+}
+
+/// Makes a tag; an accepted call writes the first ⌈m/8⌉ bytes of `tag` and no others.
+pub fn make(
+    algorithm: u64,
+    padding: u64,
+    m: u64,
+    keys: &[u8],
+    message: &[u8],
+    bits: u64,
+    tag: &mut [u8],
+) -> Answer {
+    match tag_of((algorithm, padding, m), keys, message, bits, |size| tag.len() >= size) {
+        Err(number) => Answer::refused(number),
+        Ok((right, size, calls)) => {
+            tag[..size].copy_from_slice(&right[..size]);
+            Answer { number: 0, yes: 1, calls }
+        }
+    }
+}
+
+/// Checks a tag of exactly ⌈m/8⌉ bytes; a spare bit that is set makes it wrong.
+pub fn check(
+    algorithm: u64,
+    padding: u64,
+    m: u64,
+    keys: &[u8],
+    message: &[u8],
+    bits: u64,
+    tag: &[u8],
+) -> Answer {
+    match tag_of((algorithm, padding, m), keys, message, bits, |size| tag.len() == size) {
+        Err(number) => Answer::refused(number),
+        Ok((right, size, calls)) => Answer { number: 0, yes: u64::from(right[..size] == *tag), calls },
+    }
+}

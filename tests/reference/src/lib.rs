@@ -1,0 +1,32 @@
+//! Plain reference of document 01: SM4, the four paddings and the eight algorithms of GB/T 15852.1
+//! (approval draft), one-call making and checking, sessions by pieces, and lot slips.
+//! Written from the documents alone, to produce expected outputs and to compare with.
+//!
+//! Programs: `tag` (one tag), `slip` (one slip), `cases` (generated cases), `commands` (generated command lines), `answer`
+//! (answers to command lines), `speed` (the baseline).
+#![allow(clippy::manual_is_multiple_of, clippy::too_many_arguments)]
+
+pub mod call;
+pub mod cases;
+pub mod mac;
+pub mod padding;
+pub mod session;
+pub mod slip;
+pub mod sm4;
+#[cfg(test)]
+mod tests;
+
+pub use call::{check, make, Answer};
+
+/// Upper case hex digits.
+pub fn hex(bytes: &[u8]) -> String {
+    bytes.iter().map(|b| format!("{b:02X}")).collect()
+}
+
+/// Bytes of hex digits, blanks passed over; None for anything else.
+pub fn unhex(text: &str) -> Option<Vec<u8>> {
+    let digits: Option<Vec<u8>> =
+        text.chars().filter(|c| *c != ' ').map(|c| c.to_digit(16).map(|d| d as u8)).collect();
+    let digits = digits.filter(|d| d.len() % 2 == 0)?;
+    Some(digits.chunks(2).map(|d| d[0] * 16 + d[1]).collect())
+}

@@ -1,0 +1,166 @@
+//! Sessions: a record handed from call to call by value (01 "Numbered answers", open points 15 to 23).
+
+use crate::call::{settings_refusal, Answer, LIMIT};
+use crate::mac::{truncate, two_keys, Engine};
+use crate::padding::{self, bytes_for};
+use crate::sm4::Block;
+
+/// Any values may stand here; `is_open` judges them. A closed record as handed out is all zeros.
+#[derive(Clone, Copy, Debug, Default, PartialEq, Eq)]
+pub struct Record {
+    /// 0 closed, 1 open at a byte edge, 2 open after a part byte; any other counts as closed.
+    pub phase: u64,
+    /// The bits of the part byte, 1 to 7, in phase 2; else 0.
+    pub part: u64,
+    pub algorithm: u64,
+    pub padding: u64,
+    pub m: u64,
+    /// Stored under padding 3 only, else 0.
+    pub declared: u64,
+    /// The bits fed so far.
+    pub total: u64,
+    /// K, then K'; after a start zeros where there is no K'.
+    pub keys: [u8; 32],
+    /// H of the blocks enciphered so far.
+    pub chain: Block,
+    /// The waiting block, full or in part, zeros past the bits it holds.
+    pub held: Block,
+}
+
+impl Record {
+    fn keys_in_use(&self) -> &[u8] {
+        &self.keys[..if two_keys(self.algorithm) { 32 } else { 16 }]
+    }
+
+    /// Message blocks enciphered so far: all full ones but the waiting block.
+    fn chained(&self) -> u64 {
+        self.total.saturating_sub(1) / 128
+    }
+
+    /// Bits of the waiting block: 0 for no bits at all, else 1 to 128.
+    fn held_bits(&self) -> u64 {
+        self.total - 128 * self.chained()
+    }
+
+    /// False for a closed record and for each that counts as closed.
+    pub fn is_open(&self) -> bool {
+        let state_fits = match self.phase {
+            1 => self.part == 0 && self.total % 8 == 0,
+            2 => (1..=7).contains(&self.part) && self.total % 8 == self.part,
+            _ => false,
+        };
+        state_fits
+            && settings_refusal(self.algorithm, self.padding, self.m, self.keys_in_use()) == 0
+            && self.total <= LIMIT
+            && (self.padding != 3 || self.declared <= LIMIT && self.total <= self.declared)
+            && u128::from_be_bytes(self.held).checked_shl(self.held_bits() as u32).unwrap_or(0) == 0
+    }
+
+    /// Enciphers the waiting block into the chain.
+    fn push(&mut self, engine: &mut Engine, block_is_first: bool) {
+        let first = block_is_first && self.padding != 3;
+        self.chain = engine.step(first, &self.chain, &self.held);
+        self.held = [0; 16];
+    }
+
+    /// The calls made by the start and the pieces that led to this record.
+    fn calls_before(&self) -> u64 {
+        let blocks = self.chained() + u64::from(self.padding == 3);
+        blocks + u64::from(self.algorithm == 8) + u64::from(self.algorithm == 4 && blocks > 0)
+    }
+}
+
+/// Starts a session; `declared` is read with padding 3 only. Refusals 1 to 6, then 8.
+/// An accepted start, like an accepted piece, answers number 0, yes 0, calls 0.
+pub fn start(algorithm: u64, padding: u64, m: u64, keys: &[u8], declared: u64) -> (Record, Answer) {
+    let number = match settings_refusal(algorithm, padding, m, keys) {
+        0 if padding == 3 && declared > LIMIT => 8,
+        number => number,
+    };
+    if number != 0 {
+        return (Record::default(), Answer::refused(number));
+    }
+    let mut record = Record { phase: 1, algorithm, padding, m, ..Record::default() };
+    record.keys[..keys.len()].copy_from_slice(keys);
+    let mut engine = Engine::new(algorithm, keys);
+    record.chain = engine.begin();
+    if padding == 3 {
+        record.declared = declared;
+        record.chain = engine.step(true, &record.chain, &padding::length_block(declared));
+    }
+    (record, Answer::default())
+}
+
+fn piece_refusal(record: &Record, bytes: &[u8], bits: u64) -> u64 {
+    if !record.is_open() || record.phase == 2 && bits > 0 {
+        11
+    } else if bytes.len() as u64 != bytes_for(bits) {
+        7
+    } else if bits > LIMIT - record.total {
+        8
+    } else if record.padding == 3 && bits > record.declared - record.total {
+        12
+    } else {
+        0
+    }
+}
+
+/// Takes the next bits; a refused piece hands back the very record.
+pub fn piece(record: Record, bytes: &[u8], bits: u64) -> (Record, Answer) {
+    let number = piece_refusal(&record, bytes, bits);
+    if number != 0 {
+        return (record, Answer::refused(number));
+    }
+    let mut next = record;
+    let mut engine = Engine::new(next.algorithm, next.keys_in_use());
+    let mut left = bits;
+    for byte in bytes {
+        if padding::complete(next.total) {
+            let first = next.total == 128;
+            next.push(&mut engine, first); // it waited, and is not the last
+        }
+        let taken = left.min(8);
+        next.held[(next.total % 128 / 8) as usize] = padding::highest(*byte, taken);
+        next.total += taken;
+        left -= taken;
+    }
+    next.part = next.total % 8;
+    next.phase = if next.part == 0 { 1 } else { 2 };
+    (next, Answer::default())
+}
+
+fn finish_refusal(record: &Record, room: u64) -> u64 {
+    if !record.is_open() {
+        11
+    } else if record.padding == 3 && record.total < record.declared {
+        12
+    } else if record.algorithm == 4 && padding::q(record.padding, record.total) < 2 {
+        9
+    } else if room < bytes_for(record.m) {
+        10
+    } else {
+        0
+    }
+}
+
+/// Writes the tag, closes the session and reports all its calls; a refusal hands back the very record.
+pub fn finish(record: Record, tag: &mut [u8]) -> (Record, Answer) {
+    let number = finish_refusal(&record, tag.len() as u64);
+    if number != 0 {
+        return (record, Answer::refused(number));
+    }
+    let before = record.calls_before();
+    let mut last = record;
+    let mut engine = Engine::new(last.algorithm, last.keys_in_use());
+    let complete = padding::complete(last.total);
+    if last.padding == 2 && complete {
+        last.push(&mut engine, record.total == 128);
+    }
+    if padding::marked(last.padding, last.total) {
+        padding::set_bit(&mut last.held, last.total % 128);
+    }
+    let g = engine.last(complete, &last.chain, &last.held);
+    let size = bytes_for(last.m) as usize;
+    tag[..size].copy_from_slice(&truncate(last.algorithm, last.m, last.total, &g)[..size]);
+    (Record::default(), Answer { number: 0, yes: 1, calls: before + engine.calls })
+}

@@ -1,0 +1,598 @@
+//! Annex A of 000, the borders and runs of document 01, the appendix runs R3 to R7 of the requirements,
+//! the order of refusals, forged records, slips, and the case generator.
+
+use crate::call::LIMIT;
+use crate::cases::{self, Random, Results, Settings};
+use crate::session::{finish, piece, start, Record};
+use crate::slip::{read, Slip};
+use crate::{check, hex, mac, make, padding, sm4, unhex, Answer};
+
+const K: &str = "0123456789ABCDEFFEDCBA9876543210";
+const KK: &str = "0123456789ABCDEFFEDCBA98765432104149D2ADED9456681EC8B511D9E7EE04";
+const A7: &str = "4E595BF03F23BD10329BAF5698E898ECB3136C044E95482D4F652E694F2741CD";
+const DATA: [&[u8]; 2] = [b"This is the test message for mac", b"This is the test message "];
+
+fn h(text: &str) -> Vec<u8> {
+    unhex(text).unwrap()
+}
+
+fn block(text: &str) -> [u8; 16] {
+    h(text).try_into().unwrap()
+}
+
+fn number(number: u64) -> Answer {
+    Answer { number, yes: 0, calls: 0 }
+}
+
+fn done(calls: u64) -> Answer {
+    Answer { number: 0, yes: 1, calls }
+}
+
+/// Makes into a buffer with a byte to spare, which must stay; the count must be that of real calls.
+fn made(a: u64, p: u64, m: u64, keys: &[u8], message: &[u8], bits: u64) -> (Answer, Vec<u8>) {
+    let before = sm4::tests::CALLS.get();
+    let mut tag = [0x5A; 17];
+    let answer = make(a, p, m, keys, message, bits, &mut tag);
+    assert_eq!(sm4::tests::CALLS.get() - before, answer.calls);
+    let size = if answer.number == 0 { padding::bytes_for(m) as usize } else { 0 };
+    assert!(tag[size..].iter().all(|byte| *byte == 0x5A));
+    (answer, tag[..size].to_vec())
+}
+
+/// The same through a session, cut into pieces of these many bits; all pieces must be accepted.
+fn in_session(s: (u64, u64, u64), keys: &[u8], message: &[u8], cuts: &[u64]) -> (Answer, Vec<u8>) {
+    let before = sm4::tests::CALLS.get();
+    let (mut record, answer) = start(s.0, s.1, s.2, keys, cuts.iter().sum());
+    assert_eq!(answer, number(0));
+    let mut at = 0;
+    for cut in cuts {
+        let bytes = &message[at / 8..at / 8 + padding::bytes_for(*cut) as usize];
+        let (next, answer) = piece(record, bytes, *cut);
+        assert_eq!((answer, next.is_open()), (number(0), true));
+        record = next;
+        at += *cut as usize;
+    }
+    let mut tag = [0x5A; 17];
+    let (closed, answer) = finish(record, &mut tag);
+    assert_eq!((closed, sm4::tests::CALLS.get() - before), (Record::default(), answer.calls));
+    let size = padding::bytes_for(s.2) as usize;
+    assert!(tag[size..].iter().all(|byte| *byte == 0x5A));
+    (answer, tag[..size].to_vec())
+}
+
+#[test]
+fn sm4_standard_example() {
+    let keys = sm4::round_keys(&block(K));
+    let once = sm4::encrypt(&keys, &block(K));
+    assert_eq!(hex(&once), "681EDF34D206965E86B3E94F536E4246");
+    assert_eq!(sm4::decrypt(&keys, &once), block(K));
+    let many = (0..1_000_000).fold(block(K), |x, _| sm4::encrypt(&keys, &x));
+    assert_eq!(hex(&many), "595298C7C6FD271F0402F804C33D3F66");
+}
+
+#[test]
+fn decryption_undoes_encryption() {
+    let mut random = Random::new(1);
+    for _ in 0..1000 {
+        let (mut key, mut x) = ([0; 16], [0; 16]);
+        random.fill(&mut key);
+        random.fill(&mut x);
+        let keys = sm4::round_keys(&key);
+        assert_eq!(sm4::decrypt(&keys, &sm4::encrypt(&keys, &x)), x);
+        assert_eq!(sm4::encrypt(&keys, &sm4::decrypt(&keys, &x)), x);
+    }
+}
+
+#[test]
+fn annex_a_blocks() {
+    let rows: Vec<_> = include_str!("annex_a.txt").lines().filter(|row| row.starts_with("blocks")).collect();
+    assert_eq!(rows.len(), 8);
+    for row in rows {
+        let words: Vec<&str> = row.split(' ').collect();
+        let (p, data) = (words[1].parse().unwrap(), DATA[words[2].parse::<usize>().unwrap() - 1]);
+        let bits = 8 * data.len() as u64;
+        let blocks: Vec<String> =
+            (1..=padding::q(p, bits)).map(|i| hex(&padding::block(p, data, bits, i))).collect();
+        assert_eq!(blocks, words[3..]);
+    }
+}
+
+/// Padding once more, bit by bit as 000's clauses read.
+#[test]
+fn padding_bit_by_bit() {
+    let mut random = Random::new(2);
+    let mut bytes = [0; 50];
+    random.fill(&mut bytes);
+    for bits in 0..=400 {
+        for p in 1..=4 {
+            let mut d: Vec<bool> = (0..bits).map(|i| bytes[i / 8] >> (7 - i % 8) & 1 == 1).collect();
+            let complete = bits > 0 && bits % 128 == 0;
+            if p == 2 || p == 4 && !complete {
+                d.push(true);
+            }
+            while d.is_empty() || d.len() % 128 != 0 {
+                d.push(false);
+            }
+            if p == 3 {
+                d.splice(0..0, (0..128).rev().map(|i| bits as u128 >> i & 1 == 1));
+            }
+            let padded: Vec<u8> =
+                d.chunks(8).map(|c| c.iter().fold(0, |b, bit| 2 * b + u8::from(*bit))).collect();
+            let message = &bytes[..bits.div_ceil(8)];
+            let q = padding::q(p, bits as u64);
+            let blocks: Vec<_> = (1..=q).map(|i| padding::block(p, message, bits as u64, i)).collect();
+            assert_eq!((blocks.concat(), padding::complete(bits as u64)), (padded, complete));
+        }
+    }
+}
+
+/// P1 to P9 and P11 of document 01; P10 and P12 stand with the slips.
+#[test]
+fn borders() {
+    let zero = [0; 16];
+    let one = block("80000000000000000000000000000000");
+    let low = block("00000000000000000000000000000001");
+    let padded = |p, bytes: &[u8], bits| -> Vec<[u8; 16]> {
+        (1..=padding::q(p, bits)).map(|i| padding::block(p, bytes, bits, i)).collect()
+    };
+    assert_eq!(padded(1, &[], 0), [zero]);
+    assert_eq!(padded(2, &[], 0), [one]);
+    assert_eq!(padded(3, &[], 0), [zero, zero]);
+    assert_eq!((padded(4, &[], 0), padding::complete(0)), (vec![one], false));
+    assert_eq!((padding::q(2, 128), padding::q(4, 128), padding::complete(128)), (2, 1, true));
+    assert_eq!(padded(2, &[0xA0], 3), [block("B0000000000000000000000000000000")]);
+    assert_eq!((padding::q(3, 200), padding::length_block(200)[15]), (3, 0xC8));
+    assert_eq!(mac::double(&one), block("00000000000000000000000000000087"));
+    assert_eq!(mac::double(&block("40000000000000000000000000000000")), one);
+    assert_eq!(mac::alternate(&block(&KK[32..])), block("B1B9225D1D64A698EE3845E129171EF4"));
+    assert_eq!(mac::leftmost(12, &block("0ABC5678000000000000000000000000"))[..3], [0x0A, 0xB0, 0]);
+    assert_eq!(mac::rightmost(12, &block("00000000000000000000000000560ABC"))[..3], [0xAB, 0xC0, 0]);
+    assert_eq!((mac::turn(true, &low), mac::turn(false, &one)), (one, low));
+    assert_eq!(made(3, 1, 64, &h(KK), &[7; 48], 384).0, done(5));
+    // spare bits have no influence, under any padding
+    for p in 1..=3 {
+        assert_eq!(made(1, p, 128, &h(K), &[0xFF], 1), made(1, p, 128, &h(K), &[0x80], 1));
+    }
+}
+
+struct Vector {
+    algorithm: u64,
+    padding: u64,
+    keys: Vec<u8>,
+    data: &'static [u8],
+    bits: u64,
+    tag: Vec<u8>,
+    g: Vec<u8>,
+}
+
+fn annex_a() -> Vec<Vector> {
+    let rows = include_str!("annex_a.txt").lines().filter(|row| row.starts_with("tag"));
+    let vectors: Vec<Vector> = rows
+        .map(|row| {
+            let words: Vec<&str> = row.split(' ').collect();
+            let algorithm = words[1].parse().unwrap();
+            let data = DATA[words[3].parse::<usize>().unwrap() - 1];
+            let keys = h(match algorithm {
+                2..=4 => KK,
+                6 => A7,
+                _ => K,
+            });
+            let (padding, bits) = (words[2].parse().unwrap(), 8 * data.len() as u64);
+            Vector { algorithm, padding, keys, data, bits, tag: h(words[4]), g: h(words[5]) }
+        })
+        .collect();
+    assert_eq!(vectors.len(), 36);
+    vectors
+}
+
+/// The sizes each vector is run at, with the tag that the printed MAC and G ask for.
+fn wanted(v: &Vector) -> Vec<(u64, Vec<u8>)> {
+    if v.algorithm != 7 {
+        return vec![(64, v.tag.clone()), (128, v.g.clone())];
+    }
+    let printed = u64::from_be_bytes(v.tag.clone().try_into().unwrap());
+    let bits63 = if padding::complete(v.bits) { printed & !1 } else { printed << 1 };
+    vec![(63, bits63.to_be_bytes().to_vec())]
+}
+
+#[test]
+fn annex_a_tags_in_one_call() {
+    for v in annex_a() {
+        let (a, p) = (v.algorithm, v.padding);
+        let extra = [0, 1, 2, 2, 1, 0, 0, 1][a as usize - 1];
+        let calls = padding::q(p, v.bits) + extra;
+        let (g, counted) = mac::output(a, p, &v.keys, v.data, v.bits);
+        assert_eq!((g.to_vec(), counted), (v.g.clone(), calls));
+        for (m, tag) in wanted(&v) {
+            assert_eq!(made(a, p, m, &v.keys, v.data, v.bits), (done(calls), tag.clone()));
+            assert_eq!(check(a, p, m, &v.keys, v.data, v.bits, &tag), done(calls));
+            for bit in 0..8 * tag.len() {
+                let mut turned = tag.clone();
+                turned[bit / 8] ^= 0x80 >> (bit % 8);
+                let no = Answer { number: 0, yes: 0, calls };
+                assert_eq!(check(a, p, m, &v.keys, v.data, v.bits, &turned), no, "bit {bit}");
+            }
+        }
+        if a == 7 {
+            assert_eq!(made(a, p, 64, &v.keys, v.data, v.bits).0, number(3));
+        }
+    }
+}
+
+#[test]
+fn annex_a_tags_in_sessions() {
+    for v in annex_a() {
+        for (m, tag) in wanted(&v) {
+            let (s, one_call) =
+                ((v.algorithm, v.padding, m), made(v.algorithm, v.padding, m, &v.keys, v.data, v.bits));
+            assert_eq!(one_call.1, tag);
+            assert_eq!(in_session(s, &v.keys, v.data, &vec![8; v.data.len()]), one_call);
+            for cut in 0..=v.bits {
+                if cut % 8 == 0 {
+                    assert_eq!(in_session(s, &v.keys, v.data, &[cut, v.bits - cut]), one_call);
+                    continue;
+                }
+                // after a part byte no more bits are taken
+                let open = start(s.0, s.1, s.2, &v.keys, v.bits).0;
+                let open = piece(open, &v.data[..cut as usize / 8 + 1], cut).0;
+                assert_eq!((open.phase, open.part), (2, cut % 8));
+                assert_eq!(piece(open, &v.data[..1], 8), (open, number(11)));
+            }
+        }
+    }
+}
+
+#[test]
+fn appendix_r3_to_r5() {
+    let (one, two, full) = (&h(K)[..], &h(KK)[..], &[0xFF; 16][..]);
+    type Row<'a> = (u64, u64, u64, &'a [u8], &'a [u8], u64, &'a str, u64);
+    let rows: [Row; 14] = [
+        (7, 4, 63, one, DATA[0], 256, "16E02904EFB765B6", 2),
+        (7, 4, 63, one, DATA[1], 200, "08DF454BB0688B52", 2),
+        (1, 1, 128, one, &[], 0, "2677F46B09C122CC975533105BD4A22A", 1),
+        (2, 1, 128, two, &[], 0, "FD3953C695FCC2D3ED8176F328B8F33E", 2),
+        (3, 1, 128, two, &[], 0, "065F25BDB348C4E48A27C67D1D3A85A6", 3),
+        (6, 1, 128, two, &[], 0, "7D7DD196206F4C9717D8DAF065E4784B", 1),
+        (5, 4, 128, one, &[], 0, "29E154322E5C7BD8EE6A25BA549B24BC", 2),
+        (8, 4, 128, one, &[], 0, "C3362C82CE0474032E8A086D256C6062", 2),
+        (4, 3, 128, two, &[], 0, "E43F42910128F6D7EA83ACFE2F6B3362", 4),
+        (4, 2, 128, two, full, 128, "6EFA155411596610AB488508185BB691", 4),
+        (6, 1, 128, two, &[0xFF], 1, "32A9B595071FB6A555C318906399D419", 1),
+        (7, 4, 63, one, full, 128, "6811AF7E097364E6", 1),
+        (3, 1, 128, &[one, one].concat(), b"abc", 24, "9054FCCFF72871FDAD5202C821DBEA05", 3),
+        (1, 1, 128, one, b"abc", 24, "9054FCCFF72871FDAD5202C821DBEA05", 1),
+    ];
+    for (a, p, m, keys, message, bits, tag, calls) in rows {
+        assert_eq!(made(a, p, m, keys, message, bits), (done(calls), h(tag)));
+        assert_eq!(in_session((a, p, m), keys, message, &[bits]), (done(calls), h(tag)));
+    }
+    for data in DATA {
+        assert_eq!(made(7, 4, 64, one, data, 8 * data.len() as u64).0, number(3));
+    }
+}
+
+#[test]
+fn appendix_r7_the_limit() {
+    let long = vec![0; 1_048_577];
+    let full = &long[..1_048_576];
+    let (answer, tag) = made(1, 1, 128, &h(K), full, LIMIT);
+    assert_eq!((answer, hex(&tag)), (done(65_536), "52E7B8DB5C984966E56E4943745D6392".into()));
+    assert_eq!(made(1, 1, 128, &h(K), &long, LIMIT + 1).0, number(8));
+    assert_eq!(made(1, 1, 128, &h(K), full, LIMIT + 1).0, number(7));
+    assert_eq!(in_session((1, 1, 128), &h(K), full, &[8 * 333_333, LIMIT - 8 * 333_333]), (answer, tag));
+    let open = piece(start(1, 1, 128, &h(K), 0).0, full, LIMIT).0;
+    assert_eq!(piece(open, &[0], 1), (open, number(8)));
+    assert_eq!(start(1, 3, 128, &h(K), LIMIT).1, number(0));
+    assert_eq!(start(1, 3, 128, &h(K), LIMIT + 1), (Record::default(), number(8)));
+    assert_eq!(start(1, 2, 128, &h(K), u64::MAX).0.declared, 0);
+}
+
+#[test]
+fn algorithm_4_needs_two_blocks() {
+    for (p, bits, wanted) in [(1, 128, 9), (1, 129, 0), (2, 127, 9), (2, 128, 0), (3, 0, 0)] {
+        let message = vec![3; padding::bytes_for(bits) as usize];
+        assert_eq!(made(4, p, 64, &h(KK), &message, bits).0.number, wanted);
+    }
+    let (open, _) = piece(start(4, 1, 64, &h(KK), 0).0, &[3; 16], 128);
+    assert_eq!(finish(open, &mut [0; 16]), (open, number(9)));
+    let (open, answer) = piece(open, &[0x80], 1);
+    assert_eq!((answer, finish(open, &mut [0; 16]).1), (number(0), done(4)));
+}
+
+/// Each row shows the earlier of two neighbouring faults. Excluded by the rules themselves: 4 with 5
+/// (no K' to compare), 6 at all, 8 with 9 (too long has q >= 2), finish 12 with 9 (padding 3 has q >= 2).
+#[test]
+fn order_of_refusals_in_one_call() {
+    let (kk, same) = (h(KK), [h(K), h(K)].concat());
+    let twisted = [h(K), mac::alternate(&block(K)).to_vec()].concat();
+    let long = vec![0; LIMIT as usize / 8 + 2];
+    type Row<'a> = (u64, u64, u64, &'a [u8], &'a [u8], u64, usize, u64);
+    let rows: [Row; 20] = [
+        (0, 9, 64, &kk, &[], 0, 8, 1),
+        (9, 1, 64, &kk, &[], 0, 8, 1),
+        (257, 1, 64, &kk[..16], &[], 0, 8, 1),
+        (1, 4, 0, &kk[..16], &[], 0, 8, 2),
+        (8, 3, 129, &kk[..16], &[], 0, 8, 2),
+        (1, 1, 129, &kk[..15], &[], 0, 16, 3),
+        (1, 1, (1 << 32) + 64, &kk[..16], &[], 0, 16, 3),
+        (7, 4, 64, &kk, &[], 0, 8, 3),
+        (1, 1, 64, &kk, &[0], 0, 8, 4),
+        (2, 1, 64, &kk[..16], &[0], 0, 8, 4),
+        (2, 1, 64, &same, &[0], 0, 8, 5),
+        (4, 1, 64, &same, &[0], 0, 8, 5),
+        (4, 1, 64, &twisted, &[0], 0, 8, 5),
+        (6, 1, 64, &same, &[0], 0, 8, 5),
+        (1, 1, 64, &kk[..16], &long, LIMIT + 1, 8, 7),
+        (1, 1, 64, &kk[..16], &[], u64::MAX, 8, 7),
+        (4, 1, 64, &kk, &[], 8, 8, 7),
+        (4, 1, 64, &kk, &long, LIMIT + 9, 7, 8),
+        (4, 1, 64, &kk, &[0; 16], 128, 7, 9),
+        (4, 1, 65, &kk, &[0; 17], 136, 8, 10),
+    ];
+    for (i, (a, p, m, keys, message, bits, room, wanted)) in rows.into_iter().enumerate() {
+        let mut tag = [0x5A; 16];
+        assert_eq!(make(a, p, m, keys, message, bits, &mut tag[..room]), number(wanted), "row {i}");
+        assert_eq!(check(a, p, m, keys, message, bits, &tag[..room]), number(wanted), "row {i}");
+        assert_eq!(tag, [0x5A; 16]);
+        if wanted <= 6 {
+            // the same at a session's start, with 8 as a further fault
+            let refused = start(a, p, m, keys, u64::MAX);
+            assert_eq!(refused, (Record::default(), number(wanted)), "row {i}");
+        }
+    }
+    assert_eq!(start(4, 3, 64, &same, LIMIT + 1).1, number(5));
+    assert_eq!(make(2, 1, 64, &twisted, &[0], 8, &mut [0; 8]), done(2)); // K = K'' matters to 4 alone
+    assert_eq!(make(3, 1, 64, &same, &[0], 8, &mut [0; 8]), done(3));
+    assert_eq!(check(1, 1, 64, &kk[..16], &[0], 8, &[0; 9]), number(10));
+}
+
+#[test]
+fn order_of_refusals_in_sessions() {
+    let fresh = start(1, 3, 64, &h(K), 16).0;
+    let part = piece(start(1, 1, 64, &h(K), 0).0, &[0xFF], 3).0;
+    assert_eq!((part.phase, part.part, part.held[0]), (2, 3, 0xE0));
+    assert_eq!(piece(part, &[], 1), (part, number(11))); // before 7
+    assert_eq!(piece(part, &[], 0), (part, number(0)));
+    assert_eq!(piece(part, &[0], 0), (part, number(7)));
+    assert_eq!(piece(Record::default(), &[0], 0), (Record::default(), number(11)));
+    assert_eq!(piece(fresh, &[], u64::MAX), (fresh, number(7))); // before 8
+    let late = Record { declared: LIMIT, total: LIMIT - 8, ..fresh };
+    assert_eq!(piece(late, &[0, 0], 9), (late, number(8))); // before 12
+    assert_eq!(piece(fresh, &[0, 0, 0], 17), (fresh, number(12)));
+    assert_eq!(finish(Record { total: 24, ..fresh }, &mut []).1, number(11)); // before 12
+    assert_eq!(finish(fresh, &mut []), (fresh, number(12))); // before 10
+    let four = start(4, 2, 64, &h(KK), 0).0;
+    assert_eq!(finish(four, &mut []), (four, number(9))); // before 10
+    let full = piece(fresh, &[1, 2], 16).0;
+    assert_eq!(finish(full, &mut [0; 7]), (full, number(10)));
+    let (closed, answer) = finish(full, &mut [0; 8]);
+    assert_eq!((closed, answer), (Record::default(), done(2)));
+    assert_eq!(finish(closed, &mut []), (closed, number(11)));
+    let none = start(1, 3, 128, &h(K), 0).0; // declared 0
+    assert_eq!(piece(none, &[0], 1), (none, number(12)));
+    assert_eq!(finish(none, &mut [0; 16]).1, done(2));
+}
+
+#[test]
+fn forged_records() {
+    let open = piece(start(1, 1, 64, &h(K), 0).0, &[0xE0, 0], 16).0;
+    let part = piece(start(1, 1, 64, &h(K), 0).0, &[0xE0], 3).0;
+    let declared = piece(start(1, 3, 64, &h(K), 40).0, &[0], 8).0;
+    let two = piece(start(2, 1, 64, &h(KK), 0).0, &[0; 17], 136).0;
+    let four = Record { algorithm: 4, ..two };
+    let mut same_keys = two;
+    same_keys.keys.copy_within(..16, 16);
+    let mut twisted = four;
+    twisted.keys[16..].copy_from_slice(&mac::alternate(&block(K)));
+    let free = Record { chain: [1; 16], declared: u64::MAX, ..open };
+    let mut second = free;
+    second.keys[16..].copy_from_slice(&[9; 16]);
+    let held = |byte, record: Record| Record { held: [byte; 16], ..record };
+    let good = [open, part, declared, two, four, free, second, Record { algorithm: 2, ..twisted }];
+    let edges = [Record { total: 128, ..held(0xFF, open) }, Record { total: LIMIT, ..held(0xFF, open) }];
+    for record in good.into_iter().chain(edges) {
+        assert!(record.is_open());
+        assert_eq!(piece(record, &[], 0), (record, number(0)));
+    }
+    let bad = [
+        Record { phase: 0, ..open },
+        Record { phase: 3, ..open },
+        Record { phase: u64::MAX, ..open },
+        Record { part: 1, ..open },
+        Record { part: 8, ..open },
+        Record { phase: 2, ..open },
+        Record { phase: 2, part: 8, ..open },
+        Record { phase: 1, ..part },
+        Record { phase: 1, part: 0, ..part },
+        Record { part: 0, ..part },
+        Record { part: 4, ..part },
+        Record { part: 11, ..part },
+        Record { total: 11, part: 11, ..part },
+        Record { algorithm: 0, ..open },
+        Record { algorithm: 9, ..open },
+        Record { padding: 0, ..open },
+        Record { padding: 4, ..open },
+        Record { m: 0, ..open },
+        Record { m: 129, ..open },
+        Record { algorithm: 7, padding: 4, ..open },
+        same_keys,
+        Record { algorithm: 4, ..same_keys },
+        Record { algorithm: 6, ..same_keys },
+        twisted,
+        Record { total: LIMIT + 8, ..held(0, open) },
+        Record { total: u64::MAX - 7, ..held(0, open) },
+        Record { declared: LIMIT + 1, ..declared },
+        Record { declared: 7, ..declared },
+        Record { total: 48, ..declared },
+        Record { total: 0, ..open },
+        Record { held: [0, 0, 1, 0, 0, 0, 0, 0, 0, 0, 0, 0, 0, 0, 0, 0], ..open },
+        Record { held: block("F0000000000000000000000000000000"), ..part },
+        Record { total: 120, ..held(0xFF, open) },
+        Record { total: 136, ..held(0xFF, open) },
+    ];
+    for (i, record) in bad.into_iter().enumerate() {
+        let mut tag = [0x5A; 16];
+        assert!(!record.is_open(), "record {i}");
+        assert_eq!(piece(record, &[], 0), (record, number(11)));
+        assert_eq!(finish(record, &mut tag), (record, number(11)));
+        assert_eq!(tag, [0x5A; 16]);
+    }
+    // each single bit of the waiting block, held or past the bits it holds
+    for total in 0..=272 {
+        let held_bits = if total == 0 { 0 } else { (total - 1) % 128 + 1 };
+        let (phase, part) = (if total % 8 == 0 { 1 } else { 2 }, total % 8);
+        for bit in 0..128 {
+            let record = Record { phase, part, total, held: (1u128 << (127 - bit)).to_be_bytes(), ..open };
+            assert_eq!(record.is_open(), bit < held_bits, "{total} {bit}");
+        }
+    }
+    // the chain value is free, and the finish works from it; algorithm 4's first block is xored with it
+    let chained = Record { total: 8, chain: [1; 16], held: [0; 16], ..open };
+    let mut tag = [0; 16];
+    assert_eq!(finish(Record { m: 128, ..chained }, &mut tag).1, done(1));
+    assert_eq!(tag, sm4::encrypt(&sm4::round_keys(&block(K)), &[1; 16]));
+    let zero_chain = Record { m: 128, total: 128, held: [6; 16], chain: [0; 16], padding: 2, ..four };
+    let other = Record { held: [0; 16], chain: [6; 16], ..zero_chain };
+    let mut second_tag = [0; 16];
+    assert_eq!(finish(zero_chain, &mut tag).1, finish(other, &mut second_tag).1);
+    assert_eq!(tag, second_tag);
+}
+
+/// Any cut at byte edges, with empty pieces between, gives the one call's tag and count.
+#[test]
+fn random_sessions_agree_with_one_call() {
+    let mut random = Random::new(3);
+    let mut agreed = 0;
+    while agreed < 3000 {
+        let s = Settings::draw(&mut random);
+        let (bits, bytes) = cases::message(&mut random);
+        let message = &bytes[..padding::bytes_for(bits) as usize];
+        let one_call = made(s.algorithm, s.padding, s.m, s.keys(), message, bits);
+        if one_call.0.number != 0 {
+            continue;
+        }
+        let (mut cuts, mut left) = (vec![], bits);
+        while left >= 8 && random.below(6) > 0 {
+            cuts.push(8 * random.below(left / 8 + 1));
+            left -= cuts[cuts.len() - 1];
+        }
+        cuts.extend([left, 0]);
+        if left % 8 != 0 {
+            cuts.pop(); // `in_session` would look for the empty piece's bytes past a part byte
+        }
+        assert_eq!(in_session((s.algorithm, s.padding, s.m), s.keys(), message, &cuts), one_call);
+        agreed += 1;
+    }
+}
+
+const COVERED: &str = "01000832303236313130340200024137030004000001F4";
+const SEAL: &str = "7F000B050440A47A9299C7B8456C";
+
+fn refused(number: u64) -> Slip {
+    Slip { number, ..Slip::default() }
+}
+
+/// Slip bytes with a right seal of algorithm 5 over whatever stands before it.
+fn sealed(covered: &[u8]) -> Vec<u8> {
+    let tag = made(5, 4, 64, &h(K), covered, 8 * covered.len() as u64).1;
+    [covered, &h("7F000B050440"), &tag].concat()
+}
+
+fn slip(date: &str, lot: &[u8], amount: u32) -> Vec<u8> {
+    let lot_head = [2, 0, lot.len() as u8];
+    sealed(&[&[1, 0, 8], date.as_bytes(), &lot_head, lot, &[3, 0, 4], &amount.to_be_bytes()].concat())
+}
+
+#[test]
+fn appendix_r6_slips() {
+    let accepted =
+        Slip { number: 0, year: 2026, month: 11, day: 4, amount: 500, calls: 3, lot_at: 14, lot_len: 2 };
+    let first = h(&[COVERED, SEAL].concat());
+    assert_eq!(read(&first, &h(K)), accepted);
+    assert_eq!(read(&h(&[COVERED, "7F000B02024025BE21F5FDEE57F4"].concat()), &h(KK)), accepted);
+    let short = h(&[COVERED, "7F000501010CA330"].concat());
+    assert_eq!(read(&short, &h(K)), Slip { calls: 2, ..accepted });
+    assert_eq!(read(&h(&[COVERED, "7F000501010CA331"].concat()), &h(K)), refused(30));
+    let dated = |date: &str| [&first[..3], date.as_bytes(), &first[11..]].concat();
+    assert_eq!(read(&first, &h(K)[..15]), refused(4));
+    assert_eq!(read(&[&first[..36], &[0x6D]].concat(), &h(K)), refused(30));
+    assert_eq!(read(&[&first[..], &[0]].concat(), &h(K)), refused(24));
+    assert_eq!(read(&first[..36], &h(K)), refused(20));
+    for (date, number) in [("20230229", 23), ("04112026", 23), ("20260411", 30), ("20261104", 0)] {
+        assert_eq!(read(&dated(date), &h(K)).number, number);
+    }
+    for (bytes, number) in [("", 20), ("55", 20), ("010009", 22), ("01000832", 20), (COVERED, 20)] {
+        assert_eq!(read(&h(bytes), &h(K)), refused(number));
+    }
+}
+
+#[test]
+fn slip_refusals() {
+    let first = h(&[COVERED, SEAL].concat());
+    for length in 0..first.len() {
+        assert_eq!(read(&first[..length], &h(K)), refused(20)); // cut anywhere
+    }
+    #[rustfmt::skip]
+    let rows: [(usize, u8, u64); 20] = [
+        (0, 0x02, 21), (1, 0x01, 22), (2, 0x07, 22), (3, 0x2F, 22), (3, 0x3A, 22), // expiry
+        (11, 0x03, 21), (13, 0x00, 22), (13, 0x21, 22), (14, 0x20, 22), (15, 0x7F, 22), // lot
+        (16, 0x7F, 21), (18, 0x05, 22), // amount
+        (23, 0x03, 21), (25, 0x03, 22), (25, 0x14, 22), (25, 0x13, 20), // seal
+        (26, 0x09, 1), (27, 0x01, 2), (28, 0x81, 3), (28, 0x41, 10),
+    ];
+    for (at, byte, number) in rows {
+        let mut bytes = first.clone();
+        bytes[at] = byte;
+        assert_eq!(read(&bytes, &h(K)), refused(number), "byte {at} {byte}");
+    }
+    let seal2 = h(&[COVERED, "7F000B020240A47A9299C7B8456C"].concat());
+    assert_eq!(read(&seal2, &[h(K), h(K)].concat()), refused(5));
+    assert_eq!(read(&seal2, &h(K)), refused(4));
+    // order: 22 of a digit before 23, 24 before 1 to 6, 4 before 10, 10 before 30
+    assert_eq!(read(&slip("2023 229", b"A", 1), &h(K)), refused(22));
+    let mut two_faults = [&first[..], &[0]].concat();
+    two_faults[26] = 0;
+    assert_eq!(read(&two_faults, &h(K)), refused(24));
+    let mut nine = [&first[..], &[0]].concat();
+    nine[25] = 0x0C;
+    assert_eq!((read(&nine, &h(K)[..15]), read(&nine, &h(K))), (refused(4), refused(10)));
+}
+
+#[test]
+fn slip_values() {
+    #[rustfmt::skip]
+    let dates = [
+        ("20000101", 0), ("20991231", 0), ("20240229", 0), ("20000229", 0), ("20260430", 0),
+        ("19991231", 23), ("21000101", 23), ("20230229", 23), ("20240230", 23), ("20260431", 23),
+        ("20260001", 23), ("20261301", 23), ("20260100", 23), ("20260132", 23),
+    ];
+    for (date, number) in dates {
+        assert_eq!(read(&slip(date, b"A7", 500), &h(K)).number, number, "{date}");
+    }
+    for (amount, number) in [(0, 22), (1, 0), (1_000_000, 0), (1_000_001, 22), (u32::MAX, 22)] {
+        assert_eq!(read(&slip("20261104", b"A7", amount), &h(K)).number, number);
+    }
+    for (lot, number) in [(0, 22), (1, 0), (32, 0), (33, 22)] {
+        assert_eq!(read(&slip("20261104", &vec![b'~'; lot], 1), &h(K)).number, number);
+    }
+}
+
+/// Which numbers the first 2000 cases of seed 1 reach, and their digest. 6 never comes; 8 asks for a
+/// longer message than a one-call case has.
+#[test]
+fn generator_reaches_every_number() {
+    type Kind = (fn(&mut Random, &mut Results), &'static [usize], u64);
+    let kinds: [Kind; 3] = [
+        (cases::one_call_case, &[0, 1, 2, 3, 4, 5, 7, 9, 10], 0xEC1A684387EE8920),
+        (cases::session_case, &[0, 1, 2, 3, 4, 5, 7, 8, 9, 10, 11, 12], 0x25697BB2928365AF),
+        (cases::slip_case, &[0, 1, 2, 3, 4, 5, 10, 20, 21, 22, 23, 24, 30], 0xF864F74430EE68B1),
+    ];
+    for (case, reached, digest) in kinds {
+        let (mut random, mut results) = (Random::new(1), Results::new(false));
+        for _ in 0..2000 {
+            case(&mut random, &mut results);
+        }
+        let numbers: Vec<usize> = (0..31).filter(|number| results.numbers[*number] > 0).collect();
+        assert_eq!((&numbers[..], results.digest), (reached, digest));
+    }
+}
