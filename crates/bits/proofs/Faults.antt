@@ -56,3 +56,34 @@ unfolding firstOf pick
 first-append [] gs some = absurd (some refl)
 first-append (k given true ∷ fs) gs some = refl
 first-append (k given false ∷ fs) gs some = first-append fs gs some
+
+-- what is known of both is known of the two one after the other, and the other way round
+pub numbered-append : {fs gs : List Fault} → Numbered fs → Numbered gs → Numbered (fs ++ gs)
+numbered-append none p = p
+numbered-append (also h o) p = also h (numbered-append o p)
+
+pub clear-append : (fs gs : List Fault) → Clear (fs ++ gs) → Clear fs × Clear gs
+clear-append [] gs c = (done, c)
+clear-append (k given b ∷ fs) gs (passed e c) = (passed e (clear-append fs gs c .0), clear-append fs gs c .1)
+
+-- the same refusals before two lists with the same first fault
+pub first-same : (fs gs hs : List Fault) → firstOf gs ≡ firstOf hs → firstOf (fs ++ gs) ≡ firstOf (fs ++ hs)
+unfolding firstOf pick
+first-same [] gs hs e = e
+first-same (k given true ∷ fs) gs hs e = refl
+first-same (k given false ∷ fs) gs hs e = first-same fs gs hs e
+
+-- what holds of every number in a list, and of 0, holds of the answer
+pub data Every (P : ℕ → Type 0) : List Fault → Type 0 where
+  all : Every P []
+  with : {k : ℕ} {b : Bool} {fs : List Fault} → P k → Every P fs → Every P (k given b ∷ fs)
+
+pub every-append : {P : ℕ → Type 0} {fs gs : List Fault} → Every P fs → Every P gs → Every P (fs ++ gs)
+every-append all q = q
+every-append (with h p) q = with h (every-append p q)
+
+pub every-first : {P : ℕ → Type 0} {fs : List Fault} → P 0 → Every P fs → P (firstOf fs)
+unfolding firstOf pick
+every-first z all = z
+every-first z (with {b = true} h p) = h
+every-first z (with {b = false} h p) = every-first z p

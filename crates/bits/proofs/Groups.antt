@@ -5,11 +5,10 @@ use mathlib.Core.Bool.{Bool, true, not}
 use mathlib.Core.List.{[], _∷_, _++_, map, flatMap, zipWith}
 use Prim.Native.Nat.{ℕ, zero, suc, _*_, _/_, _≤_}
 use native.Mathlib.Omega.{arith}
-use lib.ListN.{length, take, drop, replicate, length-drop, length-replicate, take-append-drop}
+use lib.ListN.{length, take, drop, replicate, length-drop, take-append-drop}
 use lib.Seq.{drop-drop, length-take-le}
 use Rattle.bits.specs.Str.{Bits, digit, bitsN, bytesBits, zeros, xorB, halvesFlipped, everySecond}
-use Rattle.bits.proofs.Strings.{xor-true, xorB-append, xorB-zeros, length-zeros, length-xorB, xorB-twice}
-use Rattle.bits.proofs.Packed.{length-bytesBits}
+use Rattle.bits.proofs.Strings.{xor-true, xorB-append, xorB-zeros, length-zeros}
 
 xorB-ones : (w : Bits) → xorB w (replicate (length w) true) ≡ map not w
 unfolding xorB zipWith
@@ -58,16 +57,3 @@ everySecond-xor w n h = ap (λ (m : ℕ). halvesFlipped m w) eighth ∙ halvesFl
   where
     eighth : length w / 8 ≡ n
     eighth = omega arith
-
-module _ (w : Bits) (n : ℕ) (h : length w ≡ 8 * n) where
-  groups-long : length w ≡ length (bytesBits (replicate n 0xf0))
-  groups-long = omega (arith, length-bytesBits (replicate n 0xf0), length-replicate {A = ℕ} n 0xf0)
-
-  pub length-everySecond : length (everySecond w) ≡ length w
-  length-everySecond = ap length (everySecond-xor w n h) ∙ length-xorB w (bytesBits (replicate n 0xf0)) groups-long
-
-  -- done twice, it is undone
-  pub everySecond-twice : everySecond (everySecond w) ≡ w
-  everySecond-twice =
-      everySecond-xor (everySecond w) n (length-everySecond ∙ h)
-      ∙ ap (λ (v : Bits). xorB v (bytesBits (replicate n 0xf0))) (everySecond-xor w n h) ∙ xorB-twice w (bytesBits (replicate n 0xf0)) groups-long

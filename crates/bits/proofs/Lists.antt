@@ -5,14 +5,18 @@ use mathlib.Core.List.{List, [], _∷_, _++_}
 use Prim.Native.Nat.{ℕ, zero, suc, _+_, _-_, _≤_}
 use native.Mathlib.Nat.{zero-add, suc-add, sub-zero, zero-sub, suc-sub-suc}
 use native.Mathlib.Omega.{arith}
-use lib.ListN.{length, take, drop, replicate, length-replicate, replicate-append-replicate}
-use lib.Seq.{take-at, drop-at, take-nil, drop-nil}
+use lib.ListN.{length, take, drop, replicate, length-drop, length-replicate, replicate-append-replicate}
+use lib.Seq.{take-at, drop-at, take-all, take-nil, drop-nil}
 
 module _ {A : Type 0} where
   pub drop-take : (k m : ℕ) (l : List A) → drop k (take (k + m) l) ≡ take m (drop k l)
   drop-take zero m l = ap (λ (i : ℕ). take i l) (zero-add m)
   drop-take (suc k) m [] = ap (λ (i : ℕ). drop (suc k) (take i [])) (suc-add k m) ∙ sym (take-nil m)
   drop-take (suc k) m (x ∷ l) = ap (λ (i : ℕ). drop (suc k) (take i (x ∷ l))) (suc-add k m) ∙ drop-take k m l
+
+  -- what is left from a place on, taken whole
+  pub take-rest : (k : ℕ) (l : List A) → take (length l - k) (drop k l) ≡ drop k l
+  take-rest k l = take-all (length l - k) (drop k l) (omega (arith, length-drop k l))
 
   pub take-append : (k : ℕ) (x y : List A) → take k (x ++ y) ≡ take k x ++ take (k - length x) y
   take-append k [] y = rw (take-nil, sub-zero)

@@ -106,6 +106,3 @@ numOf-fit k x h = numOf-bitsN k x ∙ mod-eq-of-lt h
 
 pub bitsN-inj : (k x y : ℕ) → x < 2 ^ k → y < 2 ^ k → bitsN k x ≡ bitsN k y → x ≡ y
 bitsN-inj k x y hx hy e = sym (numOf-fit k x hx) ∙ ap numOf e ∙ numOf-fit k y hy
-
-pub numOf-inj : (u v : Bits) → length u ≡ length v → numOf u ≡ numOf v → u ≡ v
-numOf-inj u v h e = sym (bitsN-numOf u) ∙ ap₂ bitsN h e ∙ bitsN-numOf v

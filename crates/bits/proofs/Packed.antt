@@ -104,13 +104,6 @@ bytesBits-at xs i h =
     ap (take 8) (sym (bytesBits-drop i xs) ∙ ap bytesBits (drop-cons xs i 0 h))
     ∙ take-at (bitsN 8 (getD xs i 0)) (bytesBits (drop (suc i) xs)) 8 (length-bitsN 8 (getD xs i 0))
 
--- one byte more
-pub bytesBits-suc : (xs : List ℕ) (i : ℕ) → i < length xs → bytesBits (take (i + 1) xs) ≡ bytesBits (take i xs) ++ bitsN 8 (getD xs i 0)
-unfolding bytesBits flatMap
-bytesBits-suc xs i h =
-    ap bytesBits (ap (λ (n : ℕ). take n xs) (add-one i) ∙ take-suc xs i 0 h) ∙ bytesBits-append (take i xs) (getD xs i 0 ∷ [])
-    ∙ ap (λ (w : Bits). bytesBits (take i xs) ++ w) (append-nil (bitsN 8 (getD xs i 0)))
-
 pub bytesBits-set : (xs : List ℕ) (i v : ℕ) → i < length xs → bytesBits (take (i + 1) (set xs i v)) ≡ bytesBits (take i xs) ++ bitsN 8 v
 unfolding bytesBits flatMap
 bytesBits-set xs i v h =

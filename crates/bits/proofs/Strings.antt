@@ -80,9 +80,6 @@ xorB-twice [] v h = refl
 xorB-twice (b ∷ u) [] h = absurd (omega arith)
 xorB-twice (b ∷ u) (c ∷ v) h = ap₂ (λ (d : Bool) (w : Bits). d ∷ w) (xor-twice b c) (xorB-twice u v (omega arith))
 
-pub xorB-inj : (u v w : Bits) → length u ≡ length w → length v ≡ length w → xorB u w ≡ xorB v w → u ≡ v
-xorB-inj u v w hu hv e = sym (xorB-twice u w hu) ∙ ap (λ (s : Bits). xorB s w) e ∙ xorB-twice v w hv
-
 pub xorB-append : (a b c d : Bits) → length a ≡ length c → xorB (a ++ b) (c ++ d) ≡ xorB a c ++ xorB b d
 unfolding xorB zipWith
 xorB-append [] b [] d h = refl
@@ -204,10 +201,6 @@ pub length-filled : (n : ℕ) (w : Bits) → length w ≤ n → length (filled n
 unfolding filled
 length-filled n w h = omega (arith, length-append w (zeros (n - length w)), length-zeros (n - length w))
 
-pub take-filled : (n k : ℕ) (w : Bits) → k ≤ length w → take k (filled n w) ≡ take k w
-unfolding filled
-take-filled n k w h = take-append-le k w (zeros (n - length w)) h
-
 -- ---- doubling
 
 pub length-shiftl : (w : Bits) → 0 < length w → length (shiftl w) ≡ length w
@@ -268,6 +261,3 @@ rotr-rotl k w h =
 pub rotl-rotr : (k : ℕ) (w : Bits) → k ≤ length w → rotl k (rotr k w) ≡ w
 rotl-rotr k w h =
     ap (rotl k) (rotr-is k w) ∙ rotl-rotl k (length w - k) w (omega arith) ∙ rotl-all w (length w - k + k) (omega arith)
-
-pub rotl-inj : (k : ℕ) (u v : Bits) → k ≤ length u → k ≤ length v → rotl k u ≡ rotl k v → u ≡ v
-rotl-inj k u v hu hv e = sym (rotr-rotl k u hu) ∙ ap (rotr k) e ∙ rotr-rotl k v hv

@@ -6,6 +6,8 @@ use Rattle.bits.specs.Once.{Unique}
 use Rattle.bits.proofs.Same.{same, same-bytes}
 use Rattle.block.proofs.xor.Kinds as xor-k
 use Rattle.block.proofs.xor.Reads as xor
+use Rattle.block.proofs.pair.Kinds as pair-k
+use Rattle.block.proofs.pair.Reads as pair
 use Rattle.block.proofs.window.Kinds as window-k
 use Rattle.block.proofs.window.Reads as window
 use Rattle.block.proofs.join.Kinds as join-k
@@ -35,6 +37,9 @@ use Rattle.block.proofs.put.Reads as put
 
 pub xor-unique : Unique xor-k.ps xor-k.r xor.Asked xor.Learnt
 xor-unique κs a g p x y = (same-bytes 16 (search needs) (search needs) (x .ensures) (y .ensures), refl)
+
+pub pair-unique : Unique pair-k.ps pair-k.r pair.Asked pair.Learnt
+pair-unique κs a g p x y = (same (x .ensures) (y .ensures), refl)
 
 pub window-unique : Unique window-k.ps window-k.r window.Asked window.Learnt
 window-unique κs a g p x y = (same-bytes 16 (search needs) (search needs) (x .ensures) (y .ensures), refl)

@@ -1,9 +1,10 @@
-// Sixteen bytes by value. One function moves bits, `window`; joining, truncation, turns and doubling are calls of it. Every
-// function but `put` (and `copy`, its inner part) answers every argument.
+// Sixteen bytes by value. One function moves bits, `window`; joining, truncation, turns and doubling are calls of it, but where
+// whole bytes are joined, none is moved by bits. Every function but `put` and the inner parts `copy` and `join_bytes` answers every
+// argument.
 ghost use mathlib.Core.Path.{_≡_};
 ghost use mathlib.Core.List.{_++_};
 ghost use Prim.Native.Nat.{_-_, _≤_};
-ghost use lib.ListN.{length, take, drop, getD, replicate};
+ghost use lib.ListN.{length, take, drop, replicate};
 ghost use Rattle.bits.specs.Str.{bytesBits, xorB, sameB, rotl, rotr, leftmost, rightmost, filled, double, everySecond};
 ghost use Rattle.block.specs.Block.{front, lastBlock};
 
@@ -20,17 +21,14 @@ pub fn xor(a: [u8; 16], b: [u8; 16]) -> [u8; 16]
     r
 }
 
-// The byte at place j, where a and b stand side by side, and 0 past both.
-fn byte_at(a: [u8; 16], b: [u8; 16], j: usize) -> u8
-    ensures { λ r. ⌜ r ≡ getD (a ++ b) j 0 ⌝ }
+// Two blocks side by side.
+pub fn pair(a: [u8; 16], b: [u8; 16]) -> [u8; 32]
+    ensures { λ r. ⌜ r ≡ a ++ b ⌝ }
 {
-    if j < 16 {
-        return a[j];
-    }
-    if j < 32 {
-        return b[j - 16];
-    }
-    0
+    let mut r = [0u8; 32];
+    put(b, 16, &mut r[16..]);
+    put(a, 16, &mut r);
+    r
 }
 
 // The block that stands s bits in, where a and b stand side by side; b itself where s is 128 or more.
@@ -40,14 +38,25 @@ pub fn window(a: [u8; 16], b: [u8; 16], s: usize) -> [u8; 16]
     if 128 <= s {
         return b;
     }
+    let both = pair(a, b);
     let q = s / 8;
     let p = (s % 8) as u32;
     let mut r = [0u8; 16];
     let mut i: usize = 0;
     while i < 16 {
-        r[i] = bits::funnel(byte_at(a, b, q + i), byte_at(a, b, q + i + 1), p);
+        r[i] = bits::funnel(both[q + i], both[q + i + 1], p);
         i += 1;
     }
+    r
+}
+
+// The first q bytes of a, and then b from its start.
+fn join_bytes(a: [u8; 16], q: usize, b: [u8; 16]) -> [u8; 16]
+    requires { ⌜ q ≤ 16 ⌝ }
+    ensures { λ r. ⌜ r ≡ take q a ++ take (16 - q) b ⌝ }
+{
+    let mut r = a;
+    put(b, 16 - q, &mut r[q..]);
     r
 }
 
@@ -57,6 +66,9 @@ pub fn join(a: [u8; 16], n: usize, b: [u8; 16]) -> [u8; 16]
 {
     if 128 <= n {
         return a;
+    }
+    if n % 8 == 0 {
+        return join_bytes(a, n / 8, b);
     }
     window(window([0u8; 16], a, n), b, 128 - n)
 }

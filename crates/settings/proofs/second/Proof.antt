@@ -1,10 +1,9 @@
 -- `second` meets its contract: the part after sixteen bytes is all the rest, and nothing where there are fewer.
 -- Assumes nothing.
-use Prim.Native.Nat.{_-_}
-use lib.ListN.{length, length-drop, drop, drop-of-length-le}
-use lib.Seq.{take-all}
+use lib.ListN.{drop-of-length-le}
 use mathlib.Core.Path.{sym, ap, _∙_}
 use native.Mathlib.Omega.{arith}
+use Rattle.bits.proofs.Lists.{take-rest}
 use Rattle.block.specs.Block.{front}
 use borrow.Author.Needs.{needs}
 use Rattle.settings.proofs.second.Statement.{statement}
@@ -29,7 +28,7 @@ front-requires c κs = search needs
 returns-2 : tie.Need-returns-2
 returns-2 c =
     let keys = c .before .before .before .before .args .keys .now in
-    c .front .ensures ∙ ap front (take-all (length keys - 16) (drop 16 keys) (omega (arith, length-drop 16 keys)))
+    c .front .ensures ∙ ap front (take-rest 16 keys)
 
 pub second-spec : {M : Type 1} → statement M
 second-spec =
