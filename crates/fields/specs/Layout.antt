@@ -1,0 +1,66 @@
+-- A slip's four fields, one after the other, and everything that can be wrong with them: refusals 20 to 24 (01, "The lot slip").
+-- Assumes nothing.
+use mathlib.Core.List.{List, [], _∷_, _++_}
+use Prim.Native.Nat.{ℕ, _+_, _*_}
+use lib.ListN.{length, take, drop}
+use lib.Dec.{ltb}
+use Rattle.bits.specs.Choice.{Fault, _given_}
+use Rattle.fields.specs.Field.{outside, anyOutside, pairAt, value, endOf, headFaults}
+use Rattle.fields.specs.Date.{yearOf, monthOf, dayOf, dateWrong}
+use Rattle.fields.specs.declared.Places.{Places}
+
+-- ---- where the fields stand
+
+unfoldable pub lotAt : List ℕ → ℕ
+lotAt s = endOf s
+
+unfoldable pub amountAt : List ℕ → ℕ
+amountAt s = lotAt s + endOf (drop (lotAt s) s)
+
+unfoldable pub sealAt : List ℕ → ℕ
+sealAt s = amountAt s + endOf (drop (amountAt s) s)
+
+unfoldable pub placesOf : List ℕ → Places
+placesOf s = record { lot = lotAt s; amount = amountAt s; seal = sealAt s }
+
+unfoldable pub lotField : List ℕ → List ℕ
+lotField s = drop (lotAt s) s
+
+unfoldable pub amountField : List ℕ → List ℕ
+amountField s = drop (amountAt s) s
+
+unfoldable pub sealField : List ℕ → List ℕ
+sealField s = drop (sealAt s) s
+
+-- the seal covers all bytes before field 7F
+unfoldable pub covered : List ℕ → List ℕ
+covered s = take (sealAt s) s
+
+-- ---- the faults of each field
+
+-- 01 expiry: 8 digits; a wrong value byte, 22; a year outside 2000-2099 or an unreal date, 23
+unfoldable pub expiryFaults : List ℕ → List Fault
+expiryFaults field =
+    headFaults 0x01 8 8 field ++
+    (22 given anyOutside 0x30 0x39 (value field) ∷
+    23 given dateWrong (yearOf field) (monthOf field) (dayOf field) ∷
+    [])
+
+-- 02 lot: 1 to 32 bytes, each 21..7E
+unfoldable pub lotFaults : List ℕ → List Fault
+lotFaults field = headFaults 0x02 1 32 field ++ (22 given anyOutside 0x21 0x7e (value field) ∷ [])
+
+-- 03 amount: 4 bytes, high first, 1 to 1,000,000 microlitres
+unfoldable pub amountOf : List ℕ → ℕ
+amountOf field = pairAt field 3 * 65536 + pairAt field 5
+
+unfoldable pub amountFaults : List ℕ → List Fault
+amountFaults field = headFaults 0x03 4 4 field ++ (22 given outside 1 1000000 (amountOf field) ∷ [])
+
+-- 7F seal: length 4 to 19; bytes after the seal, 24
+unfoldable pub sealFaults : List ℕ → List Fault
+sealFaults field = headFaults 0x7f 4 19 field ++ (24 given ltb (endOf field) (length field) ∷ [])
+
+-- ---- in the order of the fields
+unfoldable pub layoutFaults : List ℕ → List Fault
+layoutFaults s = expiryFaults s ++ (lotFaults (lotField s) ++ (amountFaults (amountField s) ++ sealFaults (sealField s)))

@@ -1,0 +1,94 @@
+-- What the program reads is enough: the first 76 bytes of a file and the first 33 key bytes get the answer of the whole. A slip of
+-- over 75 bytes is refused by its fields, and those are refused alike where the first 76 bytes are the same; keys of over 32 bytes
+-- are too long for every algorithm, so that nothing of them is looked at. Reading no further can neither spare nor cost a bottle.
+-- Assumes nothing.
+use mathlib.Core.Path.{_≡_, refl, sym, ap, _∙_}
+use mathlib.Core.Bool.{Bool, true, false, not, true≢false}
+use mathlib.Core.List.{List, [], _∷_, _++_}
+use Prim.Native.Nat.{ℕ, _<_}
+use native.Mathlib.Omega.{arith}
+use lib.ListN.{length, take, length-take}
+use lib.Seq.{take-all, take-take}
+use lib.Dec.{eqb, leb}
+use borrow.Author.Tests.{leb-true, leb-false, ne-eqb}
+use Rattle.bits.specs.Choice.{pick, Fault, _given_, firstOf}
+use Rattle.bits.proofs.Faults.{Clear, passed, first-clear, first-same}
+use Rattle.mac.specs.Algorithm.{algorithmAt, row, Keys}
+use Rattle.settings.specs.Keys.{keysOf}
+use Rattle.settings.specs.Faults.{algorithmWrong, paddingWrong, sizeWrong, keyBytesWrong, settingsFaults}
+use Rattle.settings.proofs.Sound.{settings-alone}
+use Rattle.fields.specs.Layout.{layoutFaults}
+use Rattle.fields.proofs.Laid.{laid-out}
+use Rattle.fields.proofs.FirstBytes.{layout-alike, longest}
+use Rattle.slip.specs.Slip.{algorithmNamed, paddingNamed, mNamed, faultsUnder, slipFaults, refusedSlip, readOf}
+use Rattle.slip.proofs.Judged.{believed, layout-refused}
+use Rattle.slip.proofs.Numbers.{refused-is}
+
+-- ---- keys of more than 32 bytes
+
+too-long : (a n : ℕ) → 32 < n → keyBytesWrong a n ≡ true
+unfolding keyBytesWrong pick
+too-long a n h = go (row (algorithmAt a) .two)
+  where
+    go : (two : Bool) → not (eqb n (pick two 32 16)) ≡ true
+    go true = ap not (ne-eqb n 32 (λ e. absurd (omega arith)))
+    go false = ap not (ne-eqb n 16 (λ e. absurd (omega arith)))
+
+-- 4 at the latest, and up to it the keys are not looked at
+four-latest : (a p m n : ℕ) (K : Keys) (fs : List Fault) → 32 < n
+    → firstOf (settingsFaults a p m n K ++ fs) ≡ firstOf (1 given algorithmWrong a ∷ 2 given paddingWrong a p ∷ 3 given sizeWrong a m ∷ 4 given true ∷ [])
+unfolding settingsFaults firstOf pick
+four-latest a p m n K fs h = rw (too-long a n h) refl
+
+not-clear : (a p m n : ℕ) (K : Keys) → 32 < n → ¬ Clear (settingsFaults a p m n K)
+unfolding settingsFaults
+not-clear a p m n K h (passed e1 (passed e2 (passed e3 (passed e4 c)))) = true≢false (sym (too-long a n h) ∙ e4)
+
+module _ (a p m : ℕ) (s : List ℕ) where
+  some-fault : (k : List ℕ) → 32 < length k → ¬ (firstOf (faultsUnder a p m s k) ≡ 0)
+  some-fault k h e = not-clear a p m (length k) (keysOf k) h (first-clear _ (settings-alone a p m (length k) (keysOf k)) (believed a p m s k e .settings))
+
+  same-fault : (k l : List ℕ) → 32 < length k → 32 < length l → firstOf (faultsUnder a p m s k) ≡ firstOf (faultsUnder a p m s l)
+  unfolding faultsUnder
+  same-fault k l hk hl = first-same (layoutFaults s) _ _ (four-latest a p m (length k) (keysOf k) _ hk ∙ sym (four-latest a p m (length l) (keysOf l) _ hl))
+
+-- any two such keys get the same answer
+long-keys : (s k l : List ℕ) → 32 < length k → 32 < length l → readOf s k ≡ readOf s l
+unfolding slipFaults
+long-keys s k l hk hl =
+    refused-is s k (some-fault _ _ _ s k hk)
+    ∙ ap refusedSlip (same-fault (algorithmNamed s) (paddingNamed s) (mNamed s) s k l hk hl)
+    ∙ sym (refused-is s l (some-fault _ _ _ s l hl))
+
+pub keys-33 : (s k : List ℕ) → readOf s (take 33 k) ≡ readOf s k
+keys-33 s k = go (leb (length k) 33) refl
+  where
+    go : (b : Bool) → leb (length k) 33 ≡ b → readOf s (take 33 k) ≡ readOf s k
+    go true e = ap (readOf s) (take-all 33 k (leb-true (length k) 33 e))
+    go false e =
+        let long = leb-false (length k) 33 e in
+        long-keys s (take 33 k) k (omega (arith, length-take 33 k)) (omega arith)
+
+-- ---- slips of more than 75 bytes
+
+-- two that agree in their first 76 bytes get the same answer
+long-slips : (s t k : List ℕ) → 75 < length s → 75 < length t → take 76 s ≡ take 76 t → readOf s k ≡ readOf t k
+unfolding readOf
+long-slips s t k hs ht e =
+    let n = firstOf (layoutFaults s) in
+    let some : n ≡ 0 → ⊥ = λ z. absurd (omega (arith, longest s (laid-out s z))) in
+    sym (layout-refused (algorithmNamed s) (paddingNamed s) (mNamed s) s k n refl some)
+    ∙ layout-refused (algorithmNamed t) (paddingNamed t) (mNamed t) t k n (layout-alike s t (record { left = hs; right = ht; same = e })) some
+
+pub first-76 : (s k : List ℕ) → readOf (take 76 s) k ≡ readOf s k
+first-76 s k = go (leb (length s) 76) refl
+  where
+    go : (b : Bool) → leb (length s) 76 ≡ b → readOf (take 76 s) k ≡ readOf s k
+    go true e = ap (λ (l : List ℕ). readOf l k) (take-all 76 s (leb-true (length s) 76 e))
+    go false e =
+        let long = leb-false (length s) 76 e in
+        long-slips (take 76 s) s k (omega (arith, length-take 76 s)) (omega arith) (take-take 76 76 s (omega arith))
+
+-- both at once: what the program does
+pub enough : (s k : List ℕ) → readOf (take 76 s) (take 33 k) ≡ readOf s k
+enough s k = first-76 s (take 33 k) ∙ keys-33 s k

@@ -1,0 +1,33 @@
+-- A whole slip under a key, read by the definition: 4 November 2026, lot A7, 500 microlitres, sealed by algorithm 5 with a tag of 64
+-- bits. So the theorems about accepted slips are about something.
+-- Assumes nothing.
+use mathlib.Core.Path.{_≡_, refl}
+use mathlib.Core.Bool.{xor}
+use mathlib.Core.List.{List, [], _∷_, _++_, flatMap, zipWith}
+use Prim.Native.Nat.{ℕ}
+use Rattle.bits.specs.Choice.{pick, firstOf}
+use Rattle.bits.specs.Str.{bitsN, digit, numOf, bytesBits, words, zeros, xorB, sameB, rotl, leftmost, filled, shiftl, double, halvesFlipped, everySecond}
+use Rattle.block.specs.Block.{front}
+use Rattle.sm4.specs.Table.{sbox, FK, ck, CK, CKs}
+use Rattle.sm4.specs.Cipher.{quad, flat, four, Sbox, τ, L, L′, T, T′, F, round, rounds, made, R, enc, roundKeys, encrypted}
+use Rattle.mac.specs.Padding.{methodAt, complete, gap, oneGap, prefix, suffix, pad, D}
+use Rattle.mac.specs.Algorithm.{algorithmAt, step, steps}
+use Rattle.mac.specs.Tag.{some, H, G, mac, tagOf, callsOf, bitsOf, bytesFor, byteGroups, tagBytes}
+use Rattle.settings.specs.Keys.{keysOf}
+use Rattle.settings.specs.Faults.{settingsFaults, algorithmWrong, paddingWrong, sizeWrong, longestTag, keyBytesWrong, keysSame, keysWeak}
+use Rattle.tag.specs.OneCall.{tagLengthWrong, tagAt, callsAt}
+use Rattle.fields.specs.Field.{outside, anyOutside, pairAt, lengthOf, value, endOf, headFaults}
+use Rattle.fields.specs.Date.{digitAt, twoDigits, yearOf, monthOf, dayOf, days, leap, daysIn, dateWrong}
+use Rattle.fields.specs.Layout.{lotAt, amountAt, sealAt, lotField, amountField, sealField, covered, amountOf, expiryFaults, lotFaults, amountFaults, sealFaults, layoutFaults}
+use Rattle.slip.specs.Slip.{algorithmNamed, paddingNamed, mNamed, tagNamed, sealDefined, sealCalls, sealWrong, faultsUnder, acceptedSlip, readUnder, readOf}
+use Rattle.slip.proofs.Borders.{coveredP12}
+
+abbrev pub key : List ℕ
+key = 0x01 ∷ 0x23 ∷ 0x45 ∷ 0x67 ∷ 0x89 ∷ 0xab ∷ 0xcd ∷ 0xef ∷ 0xfe ∷ 0xdc ∷ 0xba ∷ 0x98 ∷ 0x76 ∷ 0x54 ∷ 0x32 ∷ 0x10 ∷ []
+
+abbrev pub sealed : List ℕ
+sealed = coveredP12 ++ (0x7f ∷ 0x00 ∷ 0x0b ∷ 5 ∷ 4 ∷ 64 ∷ 0xa4 ∷ 0x7a ∷ 0x92 ∷ 0x99 ∷ 0xc7 ∷ 0xb8 ∷ 0x45 ∷ 0x6c ∷ [])
+
+pub accepted-example : readOf sealed key ≡ record { number = 0; year = 2026; month = 11; day = 4; amount = 500; calls = 3; place = 14; length = 2 }
+unfolding pick firstOf bitsN digit numOf bytesBits flatMap words zeros xorB zipWith xor sameB rotl leftmost filled shiftl double halvesFlipped everySecond front sbox FK ck CK CKs quad flat four Sbox τ L L′ T T′ F round rounds made R enc roundKeys encrypted methodAt complete gap oneGap prefix suffix pad D algorithmAt step steps some H G mac tagOf callsOf bitsOf bytesFor byteGroups tagBytes keysOf settingsFaults algorithmWrong paddingWrong sizeWrong longestTag keyBytesWrong keysSame keysWeak tagLengthWrong tagAt callsAt outside anyOutside pairAt lengthOf value endOf headFaults digitAt twoDigits yearOf monthOf dayOf days leap daysIn dateWrong lotAt amountAt sealAt lotField amountField sealField covered amountOf expiryFaults lotFaults amountFaults sealFaults layoutFaults algorithmNamed paddingNamed mNamed tagNamed sealDefined sealCalls sealWrong faultsUnder acceptedSlip readUnder readOf
+accepted-example = refl

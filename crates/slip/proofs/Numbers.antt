@@ -1,0 +1,137 @@
+-- Document 01's words about a slip, said of every answer that the contracts of `read` and `lot` allow: the number is that of the
+-- first fault, 0 where there is none, and never 7, 8 or 9; a refused slip reports zeros and no calls, an accepted one as many calls
+-- as the definition's list has; the lot is the very bytes 14 and on of the slip, and the empty part of a refused one.
+-- Assumes nothing.
+use mathlib.Core.Path.{_≡_, refl, sym, ap, _∙_}
+use mathlib.Core.Bool.{Bool, true, false, _||_, _&&_, true≢false}
+use mathlib.Core.List.{List}
+use Prim.Native.Nat.{ℕ, zero, suc, _+_}
+use native.Mathlib.Omega.{arith}
+use lib.Dec.{eqb, leb}
+use lib.ListN.{length, take}
+use lib.Seq.{drop-drop}
+use denote.Ref.{ptr, now}
+use contract.Lifetimes.{Lfts}
+use borrow.Fn.Kinds.{Dens}
+use borrow.Author.Tests.{ne-eqb}
+use Rattle.bits.specs.Choice.{pick, Fault, firstOf}
+use Rattle.bits.specs.Once.{Answer}
+use Rattle.bits.proofs.Faults.{Every, all, with, every-append, every-first}
+use Rattle.settings.specs.Faults.{settingsFaults}
+use Rattle.fields.specs.Field.{headFaults, lengthOf, value}
+use Rattle.fields.specs.Date.{yearOf, monthOf, dayOf}
+use Rattle.fields.specs.Layout.{lotAt, lotField, amountField, amountOf, expiryFaults, lotFaults, amountFaults, sealFaults, layoutFaults}
+use Rattle.fields.proofs.Laid.{lot-place}
+use Rattle.slip.specs.Part.{seen, partOf}
+use Rattle.slip.specs.Slip.{algorithmNamed, paddingNamed, mNamed, sealCalls, faultsUnder, slipFaults, acceptedSlip, refusedSlip, readUnder, readOf}
+use Rattle.slip.specs.declared.Slip.{Slip}
+use Rattle.slip.proofs.Judged.{believed}
+use Rattle.slip.proofs.Whole.{Accepted, Bytewise, Whole, whole}
+use Rattle.slip.proofs.read.Kinds as read-k
+use Rattle.slip.proofs.read.Reads as read
+use Rattle.slip.proofs.lot.Kinds as lot-k
+use Rattle.slip.proofs.lot.Reads as lot
+
+-- ---- the two kinds of answer
+
+pub accepted-is : (s keys : List ℕ) → Accepted s keys → readOf s keys ≡ acceptedSlip s (sealCalls (algorithmNamed s) (paddingNamed s) (mNamed s) s keys)
+unfolding readOf readUnder slipFaults pick
+accepted-is s keys e = rw e refl
+
+pub refused-is : (s keys : List ℕ) → ¬ Accepted s keys → readOf s keys ≡ refusedSlip (firstOf (slipFaults s keys))
+unfolding readOf readUnder slipFaults pick
+refused-is s keys h = rw (ne-eqb (firstOf (slipFaults s keys)) 0 h) refl
+
+-- ---- which numbers a slip can get
+
+-- 0, 1 to 6, 10, 20 to 24, 30
+unfoldable pub slipNumber : ℕ → Bool
+slipNumber n = leb n 6 || (eqb n 10 || ((leb 20 n && leb n 24) || eqb n 30))
+
+abbrev Of-slip : List Fault → Type 0
+Of-slip fs = Every (λ n. slipNumber n ≡ true) fs
+
+head-numbers : (tag least most : ℕ) (field : List ℕ) → Of-slip (headFaults tag least most field)
+unfolding headFaults slipNumber
+head-numbers tag least most field = with refl (with refl (with refl (with refl all)))
+
+layout-numbers : (s : List ℕ) → Of-slip (layoutFaults s)
+unfolding layoutFaults expiryFaults lotFaults amountFaults sealFaults slipNumber
+layout-numbers s =
+    every-append (every-append (head-numbers 0x01 8 8 s) (with refl (with refl all)))
+    (every-append (every-append (head-numbers 0x02 1 32 (lotField s)) (with refl all))
+    (every-append (every-append (head-numbers 0x03 4 4 _) (with refl all))
+    (every-append (head-numbers 0x7f 4 19 _) (with refl all))))
+
+pub slip-numbers : (s keys : List ℕ) → slipNumber (firstOf (slipFaults s keys)) ≡ true
+unfolding slipFaults faultsUnder settingsFaults slipNumber
+slip-numbers s keys =
+    every-first {P = λ n. slipNumber n ≡ true} refl
+    (every-append (layout-numbers s) (with refl (with refl (with refl (with refl (with refl (with refl (with refl (with refl all)))))))))
+
+pub never-7-8-9 : (s keys : List ℕ) → ¬ (firstOf (slipFaults s keys) ≡ 7) × (¬ (firstOf (slipFaults s keys) ≡ 8) × ¬ (firstOf (slipFaults s keys) ≡ 9))
+unfolding slipNumber
+never-7-8-9 s keys = (λ e. not-of-slip 7 refl e, (λ e. not-of-slip 8 refl e, λ e. not-of-slip 9 refl e))
+  where
+    not-of-slip : (n : ℕ) → slipNumber n ≡ false → firstOf (slipFaults s keys) ≡ n → ⊥
+    not-of-slip n h e = true≢false (sym (slip-numbers s keys) ∙ ap slipNumber e ∙ h)
+
+-- ---- number and calls of the answer
+
+module _ (s : List ℕ) (calls : ℕ) where
+  chosen-number : (n : ℕ) → pick (eqb n 0) (acceptedSlip s calls) (refusedSlip n) .number ≡ n
+  unfolding pick acceptedSlip refusedSlip
+  chosen-number zero = refl
+  chosen-number (suc n) = rw (ne-eqb (suc n) 0 (λ z. absurd (omega arith))) refl
+
+  chosen-calls : (b : Bool) (n : ℕ) → pick b (acceptedSlip s calls) (refusedSlip n) .calls ≡ pick b calls 0
+  unfolding pick acceptedSlip refusedSlip
+  chosen-calls true n = refl
+  chosen-calls false n = refl
+
+-- ---- of every answer of the code
+
+module _ (κs : Lfts 2) (a : Dens κs read-k.ps) (x : Answer read-k.ps read-k.r read.Learnt κs a) where
+  -- the first fault of the slip
+  abbrev fault : ℕ
+  fault = firstOf (slipFaults (a .0 .now) (a .1 .0 .now))
+
+  pub read-number : x .result .number ≡ fault
+  unfolding readOf readUnder slipFaults
+  read-number = ap (λ (r : Slip). r .number) (x .ensures) ∙ chosen-number (a .0 .now) _ fault
+
+  pub read-calls : x .result .calls ≡ pick (eqb fault 0) (sealCalls (algorithmNamed (a .0 .now)) (paddingNamed (a .0 .now)) (mNamed (a .0 .now)) (a .0 .now) (a .1 .0 .now)) 0
+  unfolding readOf readUnder slipFaults
+  read-calls = ap (λ (r : Slip). r .calls) (x .ensures) ∙ chosen-calls (a .0 .now) _ (eqb fault 0) fault
+
+  -- a refused slip: its number, and zeros
+  pub read-zeros : ¬ (fault ≡ 0) → x .result ≡ refusedSlip fault
+  read-zeros h = x .ensures ∙ refused-is (a .0 .now) (a .1 .0 .now) h
+
+  -- an accepted one: the date and the amount that its fields name
+  pub read-fields : fault ≡ 0 → (x .result .year ≡ yearOf (a .0 .now)) × ((x .result .month ≡ monthOf (a .0 .now)) × ((x .result .day ≡ dayOf (a .0 .now)) × (x .result .amount ≡ amountOf (amountField (a .0 .now)))))
+  unfolding acceptedSlip
+  read-fields h =
+      let e = x .ensures ∙ accepted-is (a .0 .now) (a .1 .0 .now) h in
+      (ap (λ (r : Slip). r .year) e, (ap (λ (r : Slip). r .month) e, (ap (λ (r : Slip). r .day) e, ap (λ (r : Slip). r .amount) e)))
+
+  -- a slip that was accepted was judged whole
+  pub read-whole : Bytewise (a .0 .now) → x .result .number ≡ 0 → Whole (a .0 .now) (a .1 .0 .now)
+  read-whole fit e = whole (a .0 .now) (a .1 .0 .now) fit (sym read-number ∙ e)
+
+module _ (κs : Lfts 2) (a : Dens κs lot-k.ps) (x : Answer lot-k.ps lot-k.r lot.Learnt κs a) where
+  -- an accepted slip's lot is the value of its field 02, and begins at its byte 14
+  pub lot-of-accepted : Accepted (a .0 .now) (a .1 .0 .now) → (ptr (x .result) ≡ (ptr (a .0) .0, 14 + ptr (a .0) .1)) × (now (x .result) ≡ value (lotField (a .0 .now)))
+  unfolding acceptedSlip value lotField slipFaults
+  lot-of-accepted h =
+      let s = a .0 .now in
+      let keys = a .1 .0 .now in
+      let good = believed (algorithmNamed s) (paddingNamed s) (mNamed s) s keys h in
+      let at : lotAt s + 3 ≡ 14 = omega (arith, lot-place s (good .fields)) in
+      let e : seen (x .result) ≡ partOf (a .0) (lotAt s + 3) (lengthOf (lotField s)) = x .ensures ∙ ap (λ (r : Slip). partOf (a .0) (r .place) (r .length)) (accepted-is s keys h) in
+      (ap (λ (r : (ℕ × ℕ) × List ℕ). r .0) e ∙ ap (λ (k : ℕ). (ptr (a .0) .0, k + ptr (a .0) .1)) at, ap (λ (r : (ℕ × ℕ) × List ℕ). r .1) e ∙ ap (take (lengthOf (lotField s))) (sym (drop-drop 3 (lotAt s) s)))
+
+  -- a refused one's is the slip's first zero bytes
+  pub lot-of-refused : ¬ Accepted (a .0 .now) (a .1 .0 .now) → seen (x .result) ≡ partOf (a .0) 0 0
+  unfolding refusedSlip
+  lot-of-refused h = x .ensures ∙ ap (λ (r : Slip). partOf (a .0) (r .place) (r .length)) (refused-is (a .0 .now) (a .1 .0 .now) h)

@@ -1,0 +1,17 @@
+-- No second answer satisfies either public function's contract; of a returned part only its ghost name is left out, which no program
+-- can see: its place in memory and its bytes are fixed.
+-- Assumes nothing.
+use mathlib.Core.Path.{refl}
+use Rattle.bits.specs.Once.{Unique, UniqueBy}
+use Rattle.bits.proofs.Same.{same}
+use Rattle.slip.specs.Part.{seen}
+use Rattle.slip.proofs.read.Kinds as read-k
+use Rattle.slip.proofs.read.Reads as read
+use Rattle.slip.proofs.lot.Kinds as lot-k
+use Rattle.slip.proofs.lot.Reads as lot
+
+pub read-unique : Unique read-k.ps read-k.r read.Asked read.Learnt
+read-unique κs a g p x y = (same (x .ensures) (y .ensures), refl)
+
+pub lot-unique : UniqueBy lot-k.ps lot-k.r lot.Asked lot.Learnt (λ κs z. seen z)
+lot-unique κs a g p x y = (same (x .ensures) (y .ensures), refl)

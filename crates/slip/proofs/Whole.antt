@@ -1,0 +1,157 @@
+-- An accepted slip was judged whole: every byte of it is a field's tag or length, a checked value, a setting, or a compared seal
+-- byte (`whole`). At the scanner: a yes stands for all bytes of the slip, not for those that the first read brought.
+--
+-- `equal-slips`: two accepted slips under the same keys that agree in the covered bytes, the algorithm, the padding and m are equal.
+-- `seals-differ`: two accepted slips that differ, name the same settings with full tags, and differ only inside one stretch of 128
+-- covered bits, have different seals. This is demand 3 (`sm4-one-block-differs-bytes` of crate mac).
+-- Assumes nothing.
+use mathlib.Core.Path.{_≡_, refl, sym, ap, ap₂, _∙_, subst}
+use mathlib.Core.Bool.{Bool, true, false}
+use mathlib.Core.List.{List, _∷_, _++_}
+use Prim.Native.Nat.{ℕ, _+_, _*_, _≤_, _<_}
+use native.Mathlib.Omega.{arith}
+use lib.ListN.{length, take, drop, getD, length-take, length-drop, List·getD-eq-default}
+use lib.Seq.{drop-cons, drop-drop, take-all, getD-take, getD-drop}
+use lib.Dec.{ltb}
+use borrow.Author.Tests.{not-false, ltb-true, ltb-false}
+use Rattle.bits.specs.Choice.{firstOf}
+use Rattle.bits.specs.Str.{bytesBits}
+use Rattle.bits.proofs.Strings.{sameB-eq}
+use Rattle.bits.proofs.Packed.{length-bytesBits, bytesBits-inj}
+use Rattle.mac.specs.Padding.{methodAt}
+use Rattle.mac.specs.Algorithm.{algorithmAt}
+use Rattle.mac.specs.Tag.{bitsOf, tagBytes}
+use Rattle.mac.proofs.OneBlock.{Apart}
+use Rattle.mac.proofs.TagBytes.{tagBytes-fit}
+use Rattle.mac.proofs.Sm4.{fullBytes, sm4-one-block-differs-bytes}
+use Rattle.settings.specs.Keys.{keysOf}
+use Rattle.tag.specs.OneCall.{tagAt}
+use Rattle.fields.specs.Field.{lengthOf, value}
+use Rattle.fields.specs.Date.{yearOf, monthOf, dayOf}
+use Rattle.fields.specs.Layout.{sealAt, lotField, amountField, sealField, covered, amountOf}
+use Rattle.fields.proofs.Heads.{Within, within-all, end-whole}
+use Rattle.fields.proofs.Dates.{Real, real-date}
+use Rattle.fields.proofs.Whole.{fieldOf, value-long, seal-alone, covered-then-seal, four-fields}
+use Rattle.slip.specs.Slip.{algorithmNamed, paddingNamed, mNamed, tagNamed, sealDefined, sealWrong, slipFaults}
+use Rattle.slip.proofs.Judged.{Believed, believed}
+
+-- no rule refuses the slip
+abbrev pub Accepted : List ℕ → List ℕ → Type 0
+Accepted s keys = firstOf (slipFaults s keys) ≡ 0
+
+-- each number is a byte
+abbrev pub Bytewise : List ℕ → Type 0
+Bytewise s = (i : ℕ) → getD s i 0 < 256
+
+-- ---- what is said
+
+-- the seal that the slip's own settings give
+abbrev pub sealOf : List ℕ → List ℕ → List ℕ
+sealOf s keys = sealDefined (algorithmNamed s) (paddingNamed s) (mNamed s) s keys
+
+pub record Whole (s keys : List ℕ) : Type 0 where
+  pub bytes : s ≡ fieldOf 0x01 (value s) ++ (fieldOf 0x02 (value (lotField s)) ++ (fieldOf 0x03 (value (amountField s)) ++ fieldOf 0x7f (algorithmNamed s ∷ paddingNamed s ∷ mNamed s ∷ sealOf s keys)))
+  pub expiry-length : length (value s) ≡ 8
+  pub digits : (i : ℕ) → i < length (value s) → Within 0x30 0x39 (getD (value s) i 0)
+  pub date : Real (yearOf s) (monthOf s) (dayOf s)
+  pub lot-length : Within 1 32 (length (value (lotField s)))
+  pub visible : (i : ℕ) → i < length (value (lotField s)) → Within 0x21 0x7e (getD (value (lotField s)) i 0)
+  pub amount-length : length (value (amountField s)) ≡ 4
+  pub microlitres : Within 1 1000000 (amountOf (amountField s))
+
+-- ---- the seal
+
+module _ (s keys : List ℕ) (fit : Bytewise s) (yes : Accepted s keys) where
+  good : Believed (algorithmNamed s) (paddingNamed s) (mNamed s) s keys
+  unfolding slipFaults
+  good = believed (algorithmNamed s) (paddingNamed s) (mNamed s) s keys yes
+
+  fit-seal : Bytewise (sealField s)
+  unfolding sealField
+  fit-seal i = subst (λ (x : ℕ). x < 256) (sym (getD-drop (sealAt s) s i 0)) (fit (sealAt s + i))
+
+  seal-value : value (sealField s) ≡ drop 3 (sealField s)
+  unfolding value
+  seal-value =
+      let f = sealField s in
+      take-all (lengthOf f) (drop 3 f) (omega (arith, length-drop 3 f, good .fields .seal .whole, ended))
+    where
+      ended : length (sealField s) ≤ 3 + lengthOf (sealField s)
+      ended = omega (arith, good .fields .ended, end-whole (sealField s) (good .fields .seal .whole))
+
+  fit-tag : Bytewise (tagNamed s)
+  unfolding tagNamed
+  fit-tag i =
+      let e = ap (λ (l : List ℕ). getD (drop 3 l) i 0) seal-value ∙ ap (λ (l : List ℕ). getD l i 0) (drop-drop 3 3 (sealField s)) ∙ getD-drop (3 + 3) (sealField s) i 0 in
+      subst (λ (x : ℕ). x < 256) (sym e) (fit-seal (3 + 3 + i))
+
+  -- the seal's bytes are the defined ones, all of them
+  pub tag-defined : tagNamed s ≡ sealOf s keys
+  unfolding sealWrong sealDefined
+  tag-defined =
+      let T = tagAt (algorithmNamed s) (paddingNamed s) (mNamed s) (keysOf keys) (covered s) (8 * length (covered s)) in
+      let same = sameB-eq (bytesBits (tagNamed s)) (bytesBits (tagBytes T)) (not-false _ (good .seal)) in
+      bytesBits-inj (tagNamed s) (tagBytes T) fit-tag (tagBytes-fit T) (omega (arith, length-bytesBits (tagNamed s), length-bytesBits (tagBytes T), ap length same)) same
+
+  -- algorithm, padding and m stand before them
+  named-first : value (sealField s) ≡ algorithmNamed s ∷ paddingNamed s ∷ mNamed s ∷ tagNamed s
+  unfolding algorithmNamed paddingNamed mNamed tagNamed
+  named-first =
+      let f = sealField s in
+      let long = ok-long in
+      let at : (i : ℕ) → getD (value f) i 0 ≡ getD f (3 + i) 0 = λ i. ap (λ (l : List ℕ). getD l i 0) seal-value ∙ getD-drop 3 f i 0 in
+      drop-cons (value f) 0 0 (omega (arith, long))
+      ∙ ap₂ (λ (x : ℕ) (l : List ℕ). x ∷ l) (at 0) (drop-cons (value f) 1 0 (omega (arith, long))
+      ∙ ap₂ (λ (x : ℕ) (l : List ℕ). x ∷ l) (at 1) (drop-cons (value f) 2 0 (omega (arith, long))
+      ∙ ap (λ (x : ℕ). x ∷ drop 3 (value f)) (at 2)))
+    where
+      ok-long : 4 ≤ length (value (sealField s))
+      ok-long = omega (arith, value-long 0x7f 4 19 (sealField s) (good .fields .seal), good .fields .seal .allowed .low)
+
+  pub seal-is : sealField s ≡ fieldOf 0x7f (algorithmNamed s ∷ paddingNamed s ∷ mNamed s ∷ sealOf s keys)
+  seal-is = seal-alone s (good .fields) ∙ ap (fieldOf 0x7f) (named-first ∙ ap (λ (t : List ℕ). algorithmNamed s ∷ paddingNamed s ∷ mNamed s ∷ t) tag-defined)
+
+  pub whole : Whole s keys
+  whole = record {
+    bytes = four-fields s (good .fields) ∙ ap (λ (v : List ℕ). fieldOf 0x01 (value s) ++ (fieldOf 0x02 (value (lotField s)) ++ (fieldOf 0x03 (value (amountField s)) ++ v))) (sym (seal-alone s (good .fields)) ∙ seal-is);
+    expiry-length = omega (arith, value-long 0x01 8 8 s (good .fields .expiry), good .fields .expiry .allowed .low, good .fields .expiry .allowed .high);
+    digits = within-all 0x30 0x39 (value s) (good .fields .digits);
+    date = real-date (yearOf s) (monthOf s) (dayOf s) (good .fields .date);
+    lot-length = subst (Within 1 32) (sym (value-long 0x02 1 32 (lotField s) (good .fields .lot))) (good .fields .lot .allowed);
+    visible = within-all 0x21 0x7e (value (lotField s)) (good .fields .visible);
+    amount-length = omega (arith, value-long 0x03 4 4 (amountField s) (good .fields .amount), good .fields .amount .allowed .low, good .fields .amount .allowed .high);
+    microlitres = good .fields .microlitres;
+  }
+
+-- ---- two slips under the same keys
+
+fit-covered : (s : List ℕ) → Bytewise s → Bytewise (covered s)
+unfolding covered
+fit-covered s fit i = go (ltb i (sealAt s)) refl
+  where
+    go : (b : Bool) → ltb i (sealAt s) ≡ b → getD (take (sealAt s) s) i 0 < 256
+    go true e = subst (λ (x : ℕ). x < 256) (sym (getD-take (sealAt s) s i 0 (ltb-true i (sealAt s) e))) (fit i)
+    go false e = subst (λ (x : ℕ). x < 256) (sym (List·getD-eq-default (take (sealAt s) s) 0 (omega (arith, length-take (sealAt s) s, ltb-false i (sealAt s) e)))) (omega arith)
+
+module _ (s t keys : List ℕ) (fits : Bytewise s) (fitt : Bytewise t) (yes-s : Accepted s keys) (yes-t : Accepted t keys)
+    (same-a : algorithmNamed s ≡ algorithmNamed t) (same-p : paddingNamed s ≡ paddingNamed t) (same-m : mNamed s ≡ mNamed t) where
+  pub equal-slips : covered s ≡ covered t → s ≡ t
+  unfolding sealDefined
+  equal-slips e =
+      covered-then-seal s (good s keys fits yes-s .fields)
+      ∙ ap₂ _++_ e (seal-is s keys fits yes-s ∙ rw (same-a, same-p, same-m, e) refl ∙ sym (seal-is t keys fitt yes-t))
+      ∙ sym (covered-then-seal t (good t keys fitt yes-t .fields))
+
+  -- the seal of a slip under t's settings at full length, as demand 3 speaks of it
+  full-seal : (x : List ℕ) → sealDefined (algorithmNamed t) (paddingNamed t) 128 x keys ≡ fullBytes (algorithmAt (algorithmNamed t)) (methodAt (paddingNamed t)) (keysOf keys) (bytesBits (covered x))
+  unfolding sealDefined tagAt bitsOf
+  full-seal x = ap (fullBytes (algorithmAt (algorithmNamed t)) (methodAt (paddingNamed t)) (keysOf keys)) (take-all (8 * length (covered x)) (bytesBits (covered x)) (omega (arith, length-bytesBits (covered x))))
+
+  pub seals-differ : mNamed t ≡ 128 → (j : ℕ) → Apart 128 j (bytesBits (covered s)) (bytesBits (covered t)) → ¬ (s ≡ t) → ¬ (tagNamed s ≡ tagNamed t)
+  seals-differ full j h differ e =
+      let long : length (covered s) ≡ length (covered t) = omega (arith, h .same-length, length-bytesBits (covered s), length-bytesBits (covered t)) in
+      let of-s : tagNamed s ≡ sealDefined (algorithmNamed t) (paddingNamed t) 128 s keys = tag-defined s keys fits yes-s ∙ rw (same-a, same-p, same-m, full) refl in
+      let of-t : tagNamed t ≡ sealDefined (algorithmNamed t) (paddingNamed t) 128 t keys = tag-defined t keys fitt yes-t ∙ ap (λ (m : ℕ). sealDefined (algorithmNamed t) (paddingNamed t) m t keys) full in
+      sm4-one-block-differs-bytes (algorithmAt (algorithmNamed t)) (methodAt (paddingNamed t)) (keysOf keys) j (bytesBits (covered s)) (bytesBits (covered t)) h
+      (λ same. differ (equal-slips (bytesBits-inj (covered s) (covered t) (fit-covered s fits) (fit-covered t fitt) long same)))
+      (sym (full-seal s) ∙ sym of-s ∙ e ∙ of-t ∙ full-seal t)
