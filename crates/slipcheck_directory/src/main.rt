@@ -1,0 +1,4 @@
+// slipcheck on a directory, which opens and cannot be read.
+fn main() {
+    tool::run();
+}

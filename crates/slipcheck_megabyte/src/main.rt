@@ -1,0 +1,4 @@
+// slipcheck on a good slip with zeros after it, a megabyte in all.
+fn main() {
+    tool::run();
+}

@@ -1,0 +1,4 @@
+// slipcheck on a file that is not there.
+fn main() {
+    tool::run();
+}

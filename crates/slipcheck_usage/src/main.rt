@@ -1,0 +1,4 @@
+// slipcheck with no argument.
+fn main() {
+    tool::run();
+}

@@ -1,0 +1,4 @@
+// slipcheck on the tags of the standard's annex A.
+fn main() {
+    tool::run();
+}

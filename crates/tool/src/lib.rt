@@ -1,0 +1,77 @@
+// The program slipcheck, all of its input and output: it reads the keys from standard input and one slip from a file, and says in
+// words whether the slip is to be believed. It tells everything on standard output, since a program here has no exit status.
+//
+//     slipcheck FILE       accepted and what the slip says; or refused, the number and its meaning; or error and what is wrong
+//     slipcheck vectors    the tags that the standard prints, made anew and compared
+//
+// The argument is looked at first, then the keys, then the file. The program's own buffers, with those of the calls it makes on the
+// system, would stay far below 64 KiB even if they were all in use together:
+//
+//     4096   the file's name
+//     4096   its copy in os::open_read
+//     4096   io::write_all, where the system takes only a part of what is written
+//      904   the vectors: their rows 792, keys 64, text 32 and two tags 16
+//      256   a chunk of the typed keys
+//       33   the key bytes
+//       76   the slip
+//       22   a number's digits 20, a byte's digits 2
+//    -----
+//    13579   bytes in all
+mod hex;
+mod keys;
+mod slip_file;
+mod vectors;
+mod words;
+
+use words::print;
+
+pub fn run() {
+    if os::arg_count() != 2 {
+        print(b"error: give one argument\n");
+        usage();
+        return;
+    }
+    let mut name = io::buffer();
+    let n = os::arg(1, &mut name);
+    let wrong = os::errno();
+    if wrong != 0 {
+        words::print_failure(b"the file cannot be opened", wrong);
+        return;
+    }
+    run_on(&name[..n]);
+}
+
+fn usage() {
+    print(
+        b"slipcheck FILE       checks the slip in the file; the keys are hex digits on standard input\n",
+    );
+    print(
+        b"slipcheck vectors    runs the published vectors (a file of that name is given as ./vectors)\n",
+    );
+}
+
+fn run_on(name: &[u8]) {
+    if check::same(name, b"vectors") {
+        vectors::run();
+        return;
+    }
+    check_file(name);
+}
+
+fn check_file(name: &[u8]) {
+    let mut room = [0u8; 33];
+    match keys::read(&mut room) {
+        keys::Typed::Bytes(count) => slip_file::check(name, first(&room, count)),
+        keys::Typed::Half(_, _) => print(b"error: the keys have an odd number of hex digits\n"),
+        keys::Typed::Strange => print(b"error: the keys hold a character that is no hex digit\n"),
+        keys::Typed::Unread(reason) => words::print_failure(b"the keys cannot be read", reason),
+    }
+}
+
+// The first so many bytes, or all where there are fewer.
+pub(crate) fn first(s: &[u8], count: usize) -> &[u8] {
+    if count <= s.len() {
+        return &s[0..count];
+    }
+    s
+}
