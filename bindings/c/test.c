@@ -1,0 +1,139 @@
+/* Tests of the header against the library: the layout of the structs, and each function once accepted and once refused, with all
+ * that it hands back. The many inputs are tried by the Rust and Python tests. */
+#include <stdio.h>
+#include <string.h>
+
+#include "slipseal.h"
+
+static const uint8_t key[16] = {0x01, 0x23, 0x45, 0x67, 0x89, 0xAB, 0xCD, 0xEF, 0xFE, 0xDC, 0xBA, 0x98, 0x76, 0x54, 0x32, 0x10};
+static const uint8_t message[] = "This is the test message for mac";
+
+/* Annex A.6, algorithm 5, padding 4, 64 bits. */
+static const uint8_t printed[8] = {0x69, 0x2C, 0x43, 0x71, 0x00, 0xF3, 0xB5, 0xEE};
+
+static int tests, failures;
+
+static void expect(int holds, const char *what)
+{
+    tests++;
+    if (!holds) {
+        failures++;
+        printf("failed: %s\n", what);
+    }
+}
+
+static int is(slipseal_answer a, uint64_t number, uint64_t yes, uint64_t calls)
+{
+    return a.number == number && a.yes == yes && a.calls == calls;
+}
+
+static int filled(const uint8_t *bytes, size_t length, uint8_t byte)
+{
+    size_t i;
+    for (i = 0; i < length; i++) {
+        if (bytes[i] != byte) {
+            return 0;
+        }
+    }
+    return 1;
+}
+
+static int same(const slipseal_session *a, const slipseal_session *b)
+{
+    return memcmp(a, b, sizeof *a) == 0;
+}
+
+static void layout(void)
+{
+    expect(sizeof(slipseal_answer) == 24, "size of an answer");
+    expect(sizeof(slipseal_session) == 120, "size of a session");
+    expect(offsetof(slipseal_session, keys) == 56, "place of the keys");
+    expect(offsetof(slipseal_session, held) == 104, "place of the waiting block");
+    expect(sizeof(slipseal_step) == 144, "size of a step");
+    expect(sizeof(slipseal_slip) == 64, "size of a slip");
+}
+
+static void one_call(void)
+{
+    uint8_t tag[20];
+    memset(tag, 0xAA, sizeof tag);
+    expect(is(slipseal_make(7, 4, 64, key, 16, message, 32, 256, tag, 20), 3, 0, 0), "make refused");
+    expect(filled(tag, 20, 0xAA), "a refusal writes nothing");
+    expect(is(slipseal_make(5, 4, 64, key, 16, message, 32, 256, tag, 20), 0, 1, 3), "make accepted");
+    expect(memcmp(tag, printed, 8) == 0, "the printed tag");
+    expect(filled(tag + 8, 12, 0xAA), "bytes past the tag stay");
+    expect(is(slipseal_check(5, 4, 64, key, 16, message, 32, 256, tag, 8), 0, 1, 3), "check says yes");
+    expect(is(slipseal_check(5, 4, 64, key, 16, message, 32, 255, tag, 8), 0, 0, 3), "check says no");
+    expect(is(slipseal_check(5, 4, 64, key, 16, message, 32, 256, tag, 20), 10, 0, 0), "check refused");
+    expect(is(slipseal_make(1, 1, 1, key, 16, message, 0, 0, tag, 0), 10, 0, 0), "empty message, empty room");
+}
+
+static void session(void)
+{
+    uint8_t tag[20];
+    slipseal_session zeros;
+    slipseal_step step, next;
+    memset(tag, 0xAA, sizeof tag);
+    memset(&zeros, 0, sizeof zeros);
+
+    step = slipseal_start(5, 4, 129, key, 16, 0);
+    expect(is(step.answer, 3, 0, 0) && same(&step.session, &zeros), "a refused start hands back a closed record of zeros");
+    step = slipseal_start(5, 4, 64, key, 16, 0);
+    expect(is(step.answer, 0, 0, 0) && step.session.phase == 1, "start accepted");
+    expect(memcmp(step.session.keys, key, 16) == 0 && filled(step.session.keys + 16, 16, 0), "the record's keys");
+    step = slipseal_piece(step.session, message, 20, 160);
+    expect(is(step.answer, 0, 0, 0) && step.session.total == 160, "piece accepted");
+    next = slipseal_piece(step.session, message, 20, 1);
+    expect(is(next.answer, 7, 0, 0) && same(&next.session, &step.session), "a refused piece hands back the record");
+    step = slipseal_piece(step.session, message + 20, 12, 96);
+    next = slipseal_finish(step.session, tag, 7);
+    expect(is(next.answer, 10, 0, 0) && same(&next.session, &step.session), "a refused finish hands back the record");
+    expect(filled(tag, 20, 0xAA), "a refusal writes nothing");
+    step = slipseal_finish(step.session, tag, 20);
+    expect(is(step.answer, 0, 1, 3) && same(&step.session, &zeros), "a good finish closes and clears");
+    expect(memcmp(tag, printed, 8) == 0 && filled(tag + 8, 12, 0xAA), "the printed tag and no more");
+    step = slipseal_piece(zeros, message, 0, 0);
+    expect(is(step.answer, 11, 0, 0) && same(&step.session, &zeros), "a closed session is refused");
+}
+
+static void part_byte(void)
+{
+    slipseal_step step = slipseal_start(1, 2, 64, key, 16, 0), next;
+    step = slipseal_piece(step.session, (const uint8_t *)"\xFF", 1, 3);
+    expect(step.session.phase == 2 && step.session.part == 3 && step.session.held[0] == 0xE0, "three bits wait");
+    next = slipseal_piece(step.session, message, 1, 8);
+    expect(is(next.answer, 11, 0, 0) && same(&next.session, &step.session), "no bits after a part byte");
+}
+
+/* A record of nothing but one byte counts as closed and comes back untouched. */
+static void forged(void)
+{
+    slipseal_session record;
+    slipseal_step step;
+    uint8_t tag[16] = {0};
+    memset(&record, 0xA5, sizeof record);
+    step = slipseal_piece(record, message, 1, 8);
+    expect(is(step.answer, 11, 0, 0) && same(&step.session, &record), "a forged record in a piece");
+    step = slipseal_finish(record, tag, 16);
+    expect(is(step.answer, 11, 0, 0) && same(&step.session, &record) && filled(tag, 16, 0), "a forged record in a finish");
+}
+
+static void slip(void)
+{
+    slipseal_slip none = slipseal_read(message, 32, key, 16), zeros;
+    memset(&zeros, 0, sizeof zeros);
+    zeros.number = 21;
+    expect(memcmp(&none, &zeros, sizeof none) == 0, "a refused slip has its number and zeros");
+}
+
+int main(void)
+{
+    layout();
+    one_call();
+    session();
+    part_byte();
+    forged();
+    slip();
+    printf("c: %d tests, %d failed\n", tests, failures);
+    return failures != 0;
+}

@@ -1,0 +1,282 @@
+"""Message authentication codes of GB/T 15852.1 over SM4, and sealed lot slips.
+
+The work is done by a library that is written and proved in Rattle; this module hands bytes over by ctypes and turns its numbers
+into results. It loads the shared library that SLIPSEAL_LIB names, else the one that bindings/build puts below target/.
+
+A message is bytes and a count of bits, the highest bit of a byte first; without a count all bits are meant. The bytes are exactly
+as many as hold the bits, and spare bits of the last byte have no influence.
+
+    algorithm     padding   key bytes       m
+    1             1 to 3    16              1 to 128
+    2, 3, 4, 6    1 to 3    32, K then K'   1 to 128
+    5, 8          4         16              1 to 128
+    7             4         16              1 to 63
+
+A call that is not allowed raises Refused with the number and the words of docs/ANSWERS.md; nothing has then changed. A number
+below 0 or over 2**64 - 1 cannot be handed over and raises ValueError.
+"""
+
+import ctypes
+import operator
+import os
+from typing import NamedTuple, Optional, Union
+
+__all__ = ["Checked", "Made", "Refused", "Session", "Slip", "check", "make", "read_slip"]
+
+Bytes = Union[bytes, bytearray, memoryview]
+
+WORDS = {
+    1: "the algorithm is not one of 1 to 8",
+    2: "the padding does not belong to the algorithm",
+    3: "the tag's number of bits is not allowed for the algorithm",
+    4: "the keys have the wrong length for the algorithm",
+    5: "the first key is the same as another and must differ",
+    6: "the second key is the same as the third and must differ",
+    7: "the message has the wrong number of bytes for its bits",
+    8: "the message has more than 8388608 bits",
+    9: "the message is too short for the algorithm",
+    10: "the tag or the room for it has the wrong number of bytes",
+    11: "the session is closed or its last piece ended within a byte",
+    12: "the message is not as long as was declared",
+    20: "the slip is cut short",
+    21: "a field is missing or out of order",
+    22: "a field's length or value is not allowed",
+    23: "the expiry is not a real date from 2000 to 2099",
+    24: "there are bytes after the seal",
+    30: "the seal is wrong",
+}
+
+
+class Refused(Exception):
+    """A refused call: its number, and the words for it."""
+
+    def __init__(self, number: int) -> None:
+        super().__init__(number)
+        self.number = number
+        self.words = WORDS.get(number, "a number that this binding has no words for")
+
+    def __str__(self) -> str:
+        return "refused {}: {}".format(self.number, self.words)
+
+
+class Made(NamedTuple):
+    """A tag that was made, in (m + 7) // 8 bytes, and the number of cipher calls."""
+
+    tag: bytes
+    calls: int
+
+
+class Checked(NamedTuple):
+    """What a check answers, and the number of cipher calls. It is true where the tag is the message's, else false."""
+
+    yes: bool
+    calls: int
+
+    def __bool__(self) -> bool:
+        return self.yes
+
+
+class Slip(NamedTuple):
+    """An accepted slip: the expiry, the amount in microlitres, the lot, where it stands in the slip, and the cipher calls."""
+
+    year: int
+    month: int
+    day: int
+    amount: int
+    lot: bytes
+    lot_at: int
+    calls: int
+
+
+def make(algorithm: int, padding: int, m: int, keys: Bytes, message: Bytes, bits: Optional[int] = None) -> Made:
+    """Makes the tag of a message. Refused with the first that applies of 1 to 9.
+
+    >>> key = bytes.fromhex("0123456789ABCDEFFEDCBA9876543210")
+    >>> made = make(5, 4, 64, key, b"This is the test message for mac")
+    >>> made.tag.hex(), made.calls
+    ('692c437100f3b5ee', 3)
+    >>> make(1, 1, 64, key, bytes([0xFF]), bits=1) == make(1, 1, 64, key, bytes([0x80]), bits=1)
+    True
+    >>> make(7, 4, 64, key, b"")
+    Traceback (most recent call last):
+    slipseal.Refused: refused 3: the tag's number of bits is not allowed for the algorithm
+    """
+    room = _room()
+    answer = _library.slipseal_make(
+        *_numbers(algorithm, padding, m), *_slice(keys), *_slice_and_bits(message, bits), room, len(room)
+    )
+    _accept(answer.number)
+    return _made(room, m, answer)
+
+
+def check(
+    algorithm: int, padding: int, m: int, keys: Bytes, message: Bytes, tag: Bytes, bits: Optional[int] = None
+) -> Checked:
+    """Checks the tag of a message. The answer is true or false; a wrong tag raises nothing. Refused with the first that applies
+    of 1 to 10; 10 where the tag is not exactly (m + 7) // 8 bytes.
+
+    >>> key = bytes.fromhex("0123456789ABCDEFFEDCBA9876543210")
+    >>> message = b"This is the test message for mac"
+    >>> check(5, 4, 64, key, message, bytes.fromhex("692c437100f3b5ee"))
+    Checked(yes=True, calls=3)
+    >>> bool(check(5, 4, 64, key, message, bytes(8)))
+    False
+    """
+    answer = _library.slipseal_check(
+        *_numbers(algorithm, padding, m), *_slice(keys), *_slice_and_bits(message, bits), *_slice(tag)
+    )
+    _accept(answer.number)
+    return Checked(answer.yes == 1, answer.calls)
+
+
+class Session:
+    """A message that comes in pieces, cut anyhow; the tag is that of the whole. The session holds the keys. A good finish closes
+    it, and a refusal leaves it as it was. Calls from several threads must not meet in one session.
+
+    >>> session = Session(1, 3, 128, bytes(16), declared=20)
+    >>> session.piece(b"a")
+    >>> session.finish()
+    Traceback (most recent call last):
+    slipseal.Refused: refused 12: the message is not as long as was declared
+    >>> session.piece(b"bc", bits=12)
+    >>> session.finish() == make(1, 3, 128, bytes(16), b"abc", bits=20)
+    True
+    >>> session.closed
+    True
+    """
+
+    def __init__(self, algorithm: int, padding: int, m: int, keys: Bytes, declared: int = 0) -> None:
+        """Starts. declared is the message's number of bits, read under padding 3 only. Refused with the first that applies of 1
+        to 6, then 8 for the declared length."""
+        step = _library.slipseal_start(*_numbers(algorithm, padding, m), *_slice(keys), *_numbers(declared))
+        _accept(step.answer.number)
+        self._record = step.session
+
+    @property
+    def closed(self) -> bool:
+        """Whether a good finish has closed the session."""
+        return self._record.phase == 0
+
+    def piece(self, message: Bytes, bits: Optional[int] = None) -> None:
+        """Gives the next bits of the message; only the last may end within a byte. Refused with the first that applies of 11, 7,
+        8, 12."""
+        step = _library.slipseal_piece(self._record, *_slice_and_bits(message, bits))
+        self._record = step.session
+        _accept(step.answer.number)
+
+    def finish(self) -> Made:
+        """Ends the session. Refused with the first that applies of 11, 12, 9; more bits may then follow."""
+        room, m = _room(), self._record.m
+        step = _library.slipseal_finish(self._record, room, len(room))
+        self._record = step.session
+        _accept(step.answer.number)
+        return _made(room, m, step.answer)
+
+
+def read_slip(slip: Bytes, keys: Bytes) -> Slip:
+    """Reads a lot slip under keys; its seal names the algorithm, padding and m. Refused with 20 to 24 for the slip's form, field by
+    field; then 1 to 6, 10, and 30 where the seal is wrong.
+
+    >>> key = bytes.fromhex("0123456789ABCDEFFEDCBA9876543210")
+    >>> slip = bytes.fromhex(
+    ...     "01000832303236313130340200024137030004000001F4" "7F000B050440A47A9299C7B8456C"
+    ... )
+    >>> read_slip(slip, key)
+    Slip(year=2026, month=11, day=4, amount=500, lot=b'A7', lot_at=14, calls=3)
+    >>> read_slip(slip, bytes(16))
+    Traceback (most recent call last):
+    slipseal.Refused: refused 30: the seal is wrong
+    """
+    slip = _bytes(slip)
+    read = _library.slipseal_read(*_slice(slip), *_slice(keys))
+    _accept(read.number)
+    lot = slip[read.lot_at : read.lot_at + read.lot_len]
+    return Slip(read.year, read.month, read.day, read.amount, lot, read.lot_at, read.calls)
+
+
+# ---- what crosses
+
+
+def _numbers(*values: int) -> "list[int]":
+    """The numbers, if they fit: ctypes would cut them down without a word, and 2**64 + 1 would pass as 1."""
+    numbers = [operator.index(value) for value in values]
+    for number in numbers:
+        if not 0 <= number < 2**64:
+            raise ValueError("{} is not a number from 0 to 2**64 - 1".format(number))
+    return numbers
+
+
+def _bytes(value: Bytes) -> bytes:
+    return value if isinstance(value, bytes) else memoryview(value).tobytes()
+
+
+def _slice(value: Bytes) -> "tuple[bytes, int]":
+    """Pointer and length; the pointer to a bytes object's bytes is never null."""
+    value = _bytes(value)
+    return value, len(value)
+
+
+def _slice_and_bits(value: Bytes, bits: Optional[int]) -> "tuple[bytes, int, int]":
+    value, length = _slice(value)
+    return value, length, 8 * length if bits is None else _numbers(bits)[0]
+
+
+def _room() -> "ctypes.Array[ctypes.c_uint8]":
+    """Room for the longest tag."""
+    return (ctypes.c_uint8 * 16)()
+
+
+def _accept(number: int) -> None:
+    if number != 0:
+        raise Refused(number)
+
+
+class _Answer(ctypes.Structure):
+    _fields_ = [(name, ctypes.c_uint64) for name in ("number", "yes", "calls")]
+
+
+class _Record(ctypes.Structure):
+    _fields_ = [
+        (name, ctypes.c_uint64) for name in ("phase", "part", "algorithm", "padding", "m", "declared", "total")
+    ] + [("keys", ctypes.c_uint8 * 32), ("chain", ctypes.c_uint8 * 16), ("held", ctypes.c_uint8 * 16)]
+
+
+class _Step(ctypes.Structure):
+    _fields_ = [("answer", _Answer), ("session", _Record)]
+
+
+class _Slip(ctypes.Structure):
+    _fields_ = [
+        (name, ctypes.c_uint64)
+        for name in ("number", "year", "month", "day", "amount", "calls", "lot_at", "lot_len")
+    ]
+
+
+def _made(room: "ctypes.Array[ctypes.c_uint8]", m: int, answer: _Answer) -> Made:
+    return Made(bytes(room)[: (m + 7) // 8], answer.calls)
+
+
+def _loaded() -> ctypes.CDLL:
+    here = os.path.dirname(os.path.abspath(__file__))
+    built = os.path.normpath(os.path.join(here, "..", "..", "target", "lib", "libslipseal.so"))
+    path = os.environ.get("SLIPSEAL_LIB", built)
+    try:
+        library = ctypes.CDLL(path)
+    except OSError as error:
+        message = "{}; run bindings/build, or set SLIPSEAL_LIB to the path of libslipseal.so".format(error)
+        raise ImportError(message) from error
+    number, lent, room = ctypes.c_size_t, [ctypes.c_char_p, ctypes.c_size_t], [ctypes.POINTER(ctypes.c_uint8), ctypes.c_size_t]
+    for name, arguments, result in (
+        ("make", [number] * 3 + lent + lent + [number] + room, _Answer),
+        ("check", [number] * 3 + lent + lent + [number] + lent, _Answer),
+        ("start", [number] * 3 + lent + [number], _Step),
+        ("piece", [_Record] + lent + [number], _Step),
+        ("finish", [_Record] + room, _Step),
+        ("read", lent + lent, _Slip),
+    ):
+        function = getattr(library, "slipseal_" + name)
+        function.argtypes, function.restype = arguments, result
+    return library
+
+
+_library = _loaded()

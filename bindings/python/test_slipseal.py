@@ -1,0 +1,308 @@
+"""Tests of slipseal.py: annex A in one call and in pieces, the runs R4 to R7 of the requirements, every refusal with its words,
+records that no call handed out, and what Python alone can get wrong (numbers too large, other kinds of bytes, a "no" taken for
+true).
+
+    python3 -m unittest          in this folder
+"""
+
+import array
+import doctest
+import os
+import re
+import subprocess
+import sys
+import unittest
+
+import slipseal
+from slipseal import Refused, Session, check, make, read_slip
+
+ROOT = os.path.join(os.path.dirname(os.path.abspath(__file__)), "..", "..")
+MESSAGE = b"This is the test message for mac"
+KEY = bytes.fromhex("0123456789ABCDEFFEDCBA9876543210")
+KEYS = KEY + bytes.fromhex("4149D2ADED9456681EC8B511D9E7EE04")
+COVERED = bytes.fromhex("01000832303236313130340200024137030004000001F4")
+SLIP = COVERED + bytes.fromhex("7F000B050440A47A9299C7B8456C")
+
+
+def text(*path):
+    with open(os.path.join(ROOT, *path), encoding="utf-8") as file:
+        return file.read()
+
+
+def annex_a():
+    """Settings, keys, message, tag and calls of each printed tag, and of each printed G as a tag of 128 bits. Algorithm 7 prints
+    64 bits, which are refused, so 63 of them are taken."""
+    for line in text("bindings", "annex_a.txt").splitlines():
+        if line.startswith("#"):
+            continue
+        algorithm, padding, data, keys, tag, g = line.split()
+        algorithm, padding, message = int(algorithm), int(padding), MESSAGE if data == "1" else MESSAGE[:25]
+        q = 2 if padding in (1, 4) else len(message) // 16 + 1 if padding == 2 else 3
+        calls = q + (0, 1, 2, 2, 1, 0, 0, 1)[algorithm - 1]
+        if algorithm == 7:
+            number = int(tag, 16)
+            number = number & ~1 if data == "1" else number << 1 & 2**64 - 1
+            tags = {63: number.to_bytes(8, "big")}
+        else:
+            tags = {64: bytes.fromhex(tag), 128: bytes.fromhex(g)}
+        for m, tag in tags.items():
+            yield (algorithm, padding, m), bytes.fromhex(keys), message, tag, calls
+
+
+class Case(unittest.TestCase):
+    def refused(self, number, call, *arguments, **named):
+        with self.assertRaises(Refused) as caught:
+            call(*arguments, **named)
+        self.assertEqual(caught.exception.number, number)
+
+
+class AnnexA(Case):
+    def test_count(self):
+        self.assertEqual(len(list(annex_a())), 34 * 2 + 2)
+
+    def test_one_call(self):
+        for settings, keys, message, tag, calls in annex_a():
+            self.assertEqual(make(*settings, keys, message), (tag, calls))
+            self.assertEqual(check(*settings, keys, message, tag), (True, calls))
+            for place in range(8 * len(tag)):
+                other = bytearray(tag)
+                other[place // 8] ^= 0x80 >> place % 8
+                self.assertEqual(check(*settings, keys, message, other), (False, calls))
+
+    def test_sessions_cut_at_every_byte(self):
+        for settings, keys, message, tag, calls in annex_a():
+            cuts = [[message[:cut], message[cut:]] for cut in range(len(message) + 1)]
+            for pieces in cuts + [[message[i : i + 1] for i in range(len(message))]]:
+                session = Session(*settings, keys, declared=8 * len(message))
+                for piece in pieces:
+                    session.piece(piece)
+                self.assertEqual(session.finish(), (tag, calls))
+
+
+class OneCall(Case):
+    def test_r4_short_messages(self):
+        for algorithm, padding, m, message, bits, tag, calls in (
+            (1, 1, 128, b"", 0, "2677F46B09C122CC975533105BD4A22A", 1),
+            (2, 1, 128, b"", 0, "FD3953C695FCC2D3ED8176F328B8F33E", 2),
+            (3, 1, 128, b"", 0, "065F25BDB348C4E48A27C67D1D3A85A6", 3),
+            (6, 1, 128, b"", 0, "7D7DD196206F4C9717D8DAF065E4784B", 1),
+            (5, 4, 128, b"", 0, "29E154322E5C7BD8EE6A25BA549B24BC", 2),
+            (8, 4, 128, b"", 0, "C3362C82CE0474032E8A086D256C6062", 2),
+            (4, 3, 128, b"", 0, "E43F42910128F6D7EA83ACFE2F6B3362", 4),
+            (4, 2, 128, b"\xFF" * 16, 128, "6EFA155411596610AB488508185BB691", 4),
+            (6, 1, 128, b"\xFF", 1, "32A9B595071FB6A555C318906399D419", 1),
+            (7, 4, 63, b"\xFF" * 16, 128, "6811AF7E097364E6", 1),
+        ):
+            keys = KEYS if algorithm in (2, 3, 4, 6) else KEY
+            self.assertEqual(make(algorithm, padding, m, keys, message, bits), (bytes.fromhex(tag), calls))
+
+    def test_r5_algorithm_3_with_the_same_key_twice(self):
+        tag = bytes.fromhex("9054FCCFF72871FDAD5202C821DBEA05")
+        self.assertEqual(make(3, 1, 128, KEY + KEY, b"abc"), (tag, 3))
+        self.assertEqual(make(1, 1, 128, KEY, b"abc"), (tag, 1))
+
+    def test_r7_the_longest_message(self):
+        tag = bytes.fromhex("52E7B8DB5C984966E56E4943745D6392")
+        self.assertEqual(make(1, 1, 128, KEY, bytes(1048576)), (tag, 65536))
+        self.refused(8, make, 1, 1, 128, KEY, bytes(1048577), bits=8388609)
+        self.refused(7, make, 1, 1, 128, KEY, bytes(1048576), bits=8388609)
+
+    def test_refusals(self):
+        for number, *arguments in (
+            (1, 9, 9, 0, b"", b""),
+            (1, 2**64 - 1, 1, 64, KEY, b""),
+            (2, 1, 4, 0, b"", b""),
+            (3, 7, 4, 64, b"", b""),
+            (3, 1, 1, 2**32 + 64, KEY, b""),
+            (4, 1, 1, 64, KEYS, b""),
+            (5, 4, 1, 64, KEY + KEY, b"", 1),
+            (7, 4, 1, 64, KEYS, b"", 2**64 - 1),
+            (9, 4, 1, 64, KEYS, MESSAGE[:16], 128),
+        ):
+            self.refused(number, make, *arguments)
+            self.refused(number, check, *arguments[:5], b"", *arguments[5:])
+        for tag in (b"", bytes(1), bytes(3)):
+            self.refused(10, check, 1, 1, 12, KEY, b"", tag)
+
+    def test_a_no_is_false(self):
+        answer = check(1, 1, 64, KEY, MESSAGE, bytes(8))
+        self.assertFalse(answer)
+        self.assertEqual((answer.yes, answer.calls), (False, 2))
+        self.assertTrue(check(1, 1, 64, KEY, MESSAGE, bytes.fromhex("16E02904EFB765B7")))
+
+
+class Sessions(Case):
+    def test_every_number_of_bits(self):
+        for settings, keys in (((1, 3, 63), KEY), ((3, 2, 63), KEYS), ((5, 4, 63), KEY), ((8, 4, 63), KEY)):
+            for bits in range(257):
+                message, cut = MESSAGE[: (bits + 7) // 8], bits // 16
+                session = Session(*settings, keys, declared=bits)
+                session.piece(message[:cut])
+                session.piece(message[cut:], bits - 8 * cut)
+                session.piece(b"")
+                self.assertEqual(session.finish(), make(*settings, keys, message, bits))
+
+    def test_refused_starts(self):
+        self.refused(1, Session, 9, 9, 0, b"")
+        self.refused(4, Session, 1, 3, 64, b"", declared=8388609)
+        self.refused(8, Session, 1, 3, 64, KEY, declared=8388609)
+        Session(1, 2, 64, KEY, declared=8388609)
+
+    def test_refused_pieces_leave_the_session(self):
+        session = Session(5, 4, 128, KEY)
+        session.piece(MESSAGE[:4])
+        self.refused(7, session.piece, b"a", 0)
+        self.refused(7, session.piece, b"", 2**64 - 1)
+        self.refused(8, session.piece, bytes(1048573))
+        session.piece(MESSAGE[4:6], 11)
+        self.refused(11, session.piece, b"a")
+        self.refused(11, session.piece, b"", 8)
+        self.refused(7, session.piece, b"a", 0)
+        self.assertEqual(session.finish(), make(5, 4, 128, KEY, MESSAGE[:6], 43))
+
+    def test_refused_finishes_leave_the_session(self):
+        session = Session(2, 3, 128, KEYS, declared=40)
+        session.piece(MESSAGE[:4])
+        self.refused(12, session.piece, MESSAGE[4:6], 9)
+        self.refused(12, session.finish)
+        session.piece(MESSAGE[4:5])
+        self.assertEqual(session.finish(), make(2, 3, 128, KEYS, MESSAGE[:5]))
+
+        session = Session(4, 1, 64, KEYS)
+        session.piece(MESSAGE[:16])
+        self.refused(9, session.finish)
+        session.piece(MESSAGE[16:17], 1)
+        self.assertEqual(session.finish(), make(4, 1, 64, KEYS, MESSAGE[:17], 129))
+
+    def test_a_finish_closes(self):
+        session = Session(1, 1, 64, KEY)
+        self.assertFalse(session.closed)
+        session.finish()
+        self.assertTrue(session.closed)
+        self.assertEqual(bytes(session._record), bytes(120))
+        self.refused(11, session.piece, b"")
+        self.refused(11, session.finish)
+
+    def test_forged_records(self):
+        for fields, closed in (
+            ({}, False),
+            ({"phase": 0}, True),
+            ({"phase": 0, "part": 5}, True),
+            ({"phase": 3}, True),
+            ({"phase": 2**32 + 1}, True),
+            ({"part": 1}, True),
+            ({"phase": 2}, True),
+            ({"phase": 2, "part": 8}, True),
+            ({"total": 9}, True),
+            ({"phase": 2, "part": 1, "total": 129}, True),
+            ({"algorithm": 9}, True),
+            ({"algorithm": 257}, True),
+            ({"algorithm": 3}, False),
+            ({"padding": 4}, True),
+            ({"m": 129}, True),
+            ({"padding": 3}, True),
+            ({"padding": 3, "declared": 8}, False),
+            ({"padding": 3, "declared": 8388609}, True),
+            ({"declared": 2**64 - 1}, False),
+            ({"total": 2**63}, True),
+            ({"total": 8388608}, False),
+            ({"chain": (1,) * 16}, False),
+            ({"held": (97, 1)}, True),
+            ({"held": (98,)}, False),
+        ):
+            session = Session(1, 1, 64, KEY)
+            session.piece(b"a")
+            for name, value in fields.items():
+                kind = type(getattr(session._record, name))
+                setattr(session._record, name, kind(*value) if isinstance(value, tuple) else value)
+            before = bytes(session._record)
+            with self.subTest(**fields):
+                if closed:
+                    self.refused(11, session.piece, b"")
+                    self.refused(11, session.finish)
+                    self.assertEqual(bytes(session._record), before)
+                else:
+                    session.piece(b"")
+                    self.assertEqual(bytes(session._record), before)
+                    self.assertEqual(len(session.finish().tag), 8)
+
+
+class Slips(Case):
+    def test_r6_accepted(self):
+        for seal, keys, calls in (
+            ("7F000B050440A47A9299C7B8456C", KEY, 3),
+            ("7F000B02024025BE21F5FDEE57F4", KEYS, 3),
+            ("7F000501010CA330", KEY, 2),
+        ):
+            slip = read_slip(COVERED + bytes.fromhex(seal), keys)
+            self.assertEqual(slip, (2026, 11, 4, 500, b"A7", 14, calls))
+
+    def test_r6_refused(self):
+        self.refused(4, read_slip, SLIP, KEY[:15])
+        self.refused(30, read_slip, SLIP[:-1] + b"\x6D", KEY)
+        self.refused(24, read_slip, SLIP + b"\0", KEY)
+        self.refused(20, read_slip, SLIP[:-1], KEY)
+        for date, number in ((b"20230229", 23), (b"04112026", 23), (b"20260411", 30)):
+            self.refused(number, read_slip, SLIP[:3] + date + SLIP[11:], KEY)
+        self.refused(30, read_slip, COVERED + bytes.fromhex("7F000501010CA331"), KEY)
+        for digits, number in (("", 20), ("55", 20), ("010009", 22), ("01000832", 20), ("020008", 21)):
+            self.refused(number, read_slip, bytes.fromhex(digits), KEY)
+        self.refused(20, read_slip, COVERED, KEY)
+
+
+class Words(Case):
+    def test_words_are_those_of_the_card_and_the_header(self):
+        card = re.findall(r"^\| (\d+) \| ([^|]+) \|", text("docs", "ANSWERS.md"), re.MULTILINE)
+        header = re.findall(r"^ \* +(\d+)  ([a-z].+)$", text("include", "slipseal.h"), re.MULTILINE)
+        words = sorted(slipseal.WORDS.items())
+        self.assertEqual(sorted((int(number), words) for number, words in card), words)
+        self.assertEqual([(int(number), words) for number, words in header], words)
+
+    def test_refused_says_them(self):
+        refused = Refused(30)
+        self.assertEqual((refused.number, refused.words), (30, "the seal is wrong"))
+        self.assertEqual(str(refused), "refused 30: the seal is wrong")
+
+
+class Handed(Case):
+    def test_numbers_that_do_not_fit(self):
+        for number in (-1, 2**64, 2**64 + 1):
+            for arguments in ((number, 1, 64), (1, number, 64), (1, 1, number)):
+                self.assertRaises(ValueError, make, *arguments, KEY, b"")
+                self.assertRaises(ValueError, check, *arguments, KEY, b"", bytes(8))
+                self.assertRaises(ValueError, Session, *arguments, KEY)
+            self.assertRaises(ValueError, make, 1, 1, 64, KEY, b"", number)
+            self.assertRaises(ValueError, Session, 1, 3, 64, KEY, number)
+            self.assertRaises(ValueError, Session(1, 1, 64, KEY).piece, b"", number)
+
+    def test_what_is_no_number_or_no_bytes(self):
+        self.assertRaises(TypeError, make, 1.0, 1, 64, KEY, b"")
+        for keys in (None, 16, "0" * 16, [0] * 16):
+            self.assertRaises(TypeError, make, 1, 1, 64, keys, b"")
+            self.assertRaises(TypeError, read_slip, keys, KEY)
+
+    def test_other_kinds_of_bytes(self):
+        made = make(1, 1, 64, KEY, MESSAGE)
+        for kind in (bytearray, memoryview, lambda value: array.array("B", value)):
+            self.assertEqual(make(1, 1, 64, kind(KEY), kind(MESSAGE)), made)
+            self.assertEqual(read_slip(kind(SLIP), kind(KEY)).lot, b"A7")
+        self.assertEqual(make(1, 1, 64, KEY, memoryview(MESSAGE)[::2]), make(1, 1, 64, KEY, MESSAGE[::2]))
+
+    def test_a_missing_library_is_named(self):
+        environment = dict(os.environ, SLIPSEAL_LIB="/nowhere/libslipseal.so")
+        here = os.path.dirname(os.path.abspath(__file__))
+        run = subprocess.run(
+            [sys.executable, "-c", "import slipseal"], cwd=here, env=environment, stderr=subprocess.PIPE, universal_newlines=True
+        )
+        self.assertIn("ImportError: /nowhere/libslipseal.so", run.stderr)
+        self.assertIn("run bindings/build, or set SLIPSEAL_LIB", run.stderr)
+
+
+def load_tests(loader, tests, pattern):
+    """The examples in the module's own documentation are tests too."""
+    tests.addTests(doctest.DocTestSuite(slipseal))
+    return tests
+
+
+if __name__ == "__main__":
+    unittest.main()

@@ -1,0 +1,126 @@
+//! Message authentication codes of GB/T 15852.1 over SM4, and sealed lot slips. The work is done by a library that is written and
+//! proved in Rattle; this crate hands slices over and turns its numbers into results.
+//!
+//! A message is bytes and a count of bits, the highest bit of a byte first. The bytes are exactly as many as hold the bits, and
+//! spare bits of the last byte have no influence.
+//!
+//! ```
+//! use slipseal::{check, make, Settings};
+//!
+//! let key = [
+//!     0x01, 0x23, 0x45, 0x67, 0x89, 0xAB, 0xCD, 0xEF, 0xFE, 0xDC, 0xBA, 0x98, 0x76, 0x54, 0x32, 0x10,
+//! ];
+//! let settings = Settings { algorithm: 5, padding: 4, m: 64 };
+//! let message = b"This is the test message for mac";
+//! let mut room = [0; 16];
+//! let made = make(settings, &key, message, 256, &mut room)?;
+//! assert_eq!(made.tag, [0x69, 0x2C, 0x43, 0x71, 0x00, 0xF3, 0xB5, 0xEE]);
+//! assert_eq!(made.calls, 3);
+//! assert!(check(settings, &key, message, 256, made.tag).is_yes());
+//! # Ok::<(), slipseal::Refusal>(())
+//! ```
+
+#[cfg(not(all(target_arch = "x86_64", target_os = "linux", target_pointer_width = "64")))]
+compile_error!("slipseal is built for x86-64 Linux only");
+
+#[cfg(test)]
+mod forged;
+#[doc(hidden)]
+pub mod raw;
+mod refusal;
+mod session;
+mod slip;
+
+pub use refusal::Refusal;
+pub use session::{RefusedFinish, Session};
+pub use slip::{read_slip, Slip};
+
+/// How a tag is made. Any numbers may stand here; the calls refuse those that are not allowed, with 1, 2 and 3.
+///
+/// | algorithm | padding | key bytes | m |
+/// |---|---|---|---|
+/// | 1 | 1 to 3 | 16 | 1 to 128 |
+/// | 2, 3, 4, 6 | 1 to 3 | 32, K then K' | 1 to 128 |
+/// | 5, 8 | 4 | 16 | 1 to 128 |
+/// | 7 | 4 | 16 | 1 to 63 |
+#[derive(Clone, Copy, Debug, PartialEq, Eq)]
+pub struct Settings {
+    pub algorithm: usize,
+    pub padding: usize,
+    /// The tag's number of bits.
+    pub m: usize,
+}
+
+/// A tag that was made: the first ⌈m/8⌉ bytes of the room lent for it, and the number of cipher calls.
+#[derive(Debug, PartialEq, Eq)]
+pub struct Made<'a> {
+    pub tag: &'a [u8],
+    pub calls: u64,
+}
+
+/// What a check answers. It is no `Result`, so that a "no" cannot be taken for success by `is_ok()` or `?`.
+#[must_use]
+#[derive(Clone, Copy, Debug, PartialEq, Eq)]
+pub enum Checked {
+    /// The tag is the message's.
+    Yes { calls: u64 },
+    /// It is another one.
+    No { calls: u64 },
+    /// The check was not made.
+    Refused(Refusal),
+}
+
+impl Checked {
+    /// Whether the tag is the message's. False for a refusal.
+    #[must_use]
+    pub fn is_yes(self) -> bool {
+        matches!(self, Checked::Yes { .. })
+    }
+}
+
+/// Makes the tag of a message's first `bits` bits in the front of `room`; what stands behind it stays.
+///
+/// # Errors
+///
+/// The first that applies of 1 to 10, rising; 10 where the room is under ⌈m/8⌉ bytes. The room is then as before.
+///
+/// ```
+/// use slipseal::{make, Settings};
+///
+/// let settings = Settings { algorithm: 7, padding: 4, m: 64 };
+/// let refusal = make(settings, &[0; 16], b"", 0, &mut [0; 16]).unwrap_err();
+/// assert_eq!(refusal.number(), 3);
+/// assert_eq!(refusal.to_string(), "refused 3: the tag's number of bits is not allowed for the algorithm");
+/// ```
+pub fn make<'a>(
+    settings: Settings,
+    keys: &[u8],
+    message: &[u8],
+    bits: usize,
+    room: &'a mut [u8],
+) -> Result<Made<'a>, Refusal> {
+    let Settings { algorithm, padding, m } = settings;
+    let answer = raw::make(algorithm, padding, m, keys, message, bits, room);
+    Refusal::of(answer.number)?;
+    Ok(Made { tag: &room[..m.div_ceil(8)], calls: answer.calls })
+}
+
+/// Checks the tag of a message's first `bits` bits.
+///
+/// Refused with the first that applies of 1 to 10, rising; 10 where the tag is not exactly ⌈m/8⌉ bytes.
+///
+/// ```
+/// use slipseal::{check, Checked, Settings};
+///
+/// let settings = Settings { algorithm: 1, padding: 1, m: 12 };
+/// assert_eq!(check(settings, &[0; 16], b"abc", 24, &[0, 0]), Checked::No { calls: 1 });
+/// ```
+pub fn check(settings: Settings, keys: &[u8], message: &[u8], bits: usize, tag: &[u8]) -> Checked {
+    let Settings { algorithm, padding, m } = settings;
+    let answer = raw::check(algorithm, padding, m, keys, message, bits, tag);
+    match Refusal::of(answer.number) {
+        Err(refusal) => Checked::Refused(refusal),
+        Ok(()) if answer.yes == 1 => Checked::Yes { calls: answer.calls },
+        Ok(()) => Checked::No { calls: answer.calls },
+    }
+}

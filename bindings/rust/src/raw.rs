@@ -1,0 +1,138 @@
+//! The functions and structs of include/slipseal.h, declared again by hand, and each function with slices for its pointers. This is
+//! the one place with `unsafe`: a slice goes as its pointer, which is never null, and its length. The tests and the benchmark of the
+//! repository use it too; everyone else has the functions of the crate's root.
+#![allow(clippy::too_many_arguments)]
+
+#[repr(C)]
+#[derive(Clone, Copy)]
+pub struct Answer {
+    pub number: u64,
+    pub yes: u64,
+    pub calls: u64,
+}
+
+#[repr(C)]
+#[derive(Clone, Copy, PartialEq, Eq)]
+pub struct Record {
+    pub phase: u64,
+    pub part: u64,
+    pub algorithm: u64,
+    pub padding: u64,
+    pub m: u64,
+    pub declared: u64,
+    pub total: u64,
+    pub keys: [u8; 32],
+    pub chain: [u8; 16],
+    pub held: [u8; 16],
+}
+
+#[repr(C)]
+#[derive(Clone, Copy)]
+pub struct Step {
+    pub answer: Answer,
+    pub session: Record,
+}
+
+#[repr(C)]
+#[derive(Clone, Copy)]
+pub struct Slip {
+    pub number: u64,
+    pub year: u64,
+    pub month: u64,
+    pub day: u64,
+    pub amount: u64,
+    pub calls: u64,
+    pub lot_at: u64,
+    pub lot_len: u64,
+}
+
+extern "C" {
+    fn slipseal_make(
+        algorithm: usize,
+        padding: usize,
+        m: usize,
+        keys: *const u8,
+        keys_len: usize,
+        message: *const u8,
+        message_len: usize,
+        bits: usize,
+        tag: *mut u8,
+        tag_len: usize,
+    ) -> Answer;
+
+    fn slipseal_check(
+        algorithm: usize,
+        padding: usize,
+        m: usize,
+        keys: *const u8,
+        keys_len: usize,
+        message: *const u8,
+        message_len: usize,
+        bits: usize,
+        tag: *const u8,
+        tag_len: usize,
+    ) -> Answer;
+
+    fn slipseal_start(
+        algorithm: usize,
+        padding: usize,
+        m: usize,
+        keys: *const u8,
+        keys_len: usize,
+        declared: usize,
+    ) -> Step;
+
+    fn slipseal_piece(s: Record, bytes: *const u8, bytes_len: usize, bits: usize) -> Step;
+
+    fn slipseal_finish(s: Record, tag: *mut u8, tag_len: usize) -> Step;
+
+    fn slipseal_read(slip: *const u8, slip_len: usize, keys: *const u8, keys_len: usize) -> Slip;
+}
+
+pub fn make(
+    algorithm: usize,
+    padding: usize,
+    m: usize,
+    keys: &[u8],
+    message: &[u8],
+    bits: usize,
+    room: &mut [u8],
+) -> Answer {
+    let (k, k_len, s, s_len) = (keys.as_ptr(), keys.len(), message.as_ptr(), message.len());
+    // SAFETY: each pointer comes from a slice and goes with its length; the room is lent to this call alone.
+    unsafe { slipseal_make(algorithm, padding, m, k, k_len, s, s_len, bits, room.as_mut_ptr(), room.len()) }
+}
+
+pub fn check(
+    algorithm: usize,
+    padding: usize,
+    m: usize,
+    keys: &[u8],
+    message: &[u8],
+    bits: usize,
+    tag: &[u8],
+) -> Answer {
+    let (k, k_len, s, s_len) = (keys.as_ptr(), keys.len(), message.as_ptr(), message.len());
+    // SAFETY: each pointer comes from a slice and goes with its length.
+    unsafe { slipseal_check(algorithm, padding, m, k, k_len, s, s_len, bits, tag.as_ptr(), tag.len()) }
+}
+
+pub fn start(algorithm: usize, padding: usize, m: usize, keys: &[u8], declared: usize) -> Step {
+    // SAFETY: the pointer comes from a slice and goes with its length.
+    unsafe { slipseal_start(algorithm, padding, m, keys.as_ptr(), keys.len(), declared) }
+}
+
+pub fn piece(record: Record, bytes: &[u8], bits: usize) -> Step {
+    // SAFETY: the pointer comes from a slice and goes with its length; any record is answered.
+    unsafe { slipseal_piece(record, bytes.as_ptr(), bytes.len(), bits) }
+}
+
+pub fn finish(record: Record, room: &mut [u8]) -> Step {
+    // SAFETY: the pointer comes from a slice lent to this call alone and goes with its length; any record is answered.
+    unsafe { slipseal_finish(record, room.as_mut_ptr(), room.len()) }
+}
+
+pub fn read(slip: &[u8], keys: &[u8]) -> Slip {
+    // SAFETY: each pointer comes from a slice and goes with its length.
+    unsafe { slipseal_read(slip.as_ptr(), slip.len(), keys.as_ptr(), keys.len()) }
+}

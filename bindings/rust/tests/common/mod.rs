@@ -1,0 +1,57 @@
+//! Keys, messages and annex A, for all tests.
+#![allow(dead_code)] // each test file uses its own part
+
+use slipseal::Settings;
+
+pub const MESSAGE: &[u8; 32] = b"This is the test message for mac";
+
+pub fn hex(digits: &str) -> Vec<u8> {
+    let digits: String = digits.split_whitespace().collect();
+    (0..digits.len()).step_by(2).map(|i| u8::from_str_radix(&digits[i..i + 2], 16).unwrap()).collect()
+}
+
+/// K of annex A.
+pub fn key() -> Vec<u8> {
+    hex("0123456789ABCDEFFEDCBA9876543210")
+}
+
+/// K, then K', of annex A.
+pub fn keys() -> Vec<u8> {
+    hex("0123456789ABCDEFFEDCBA9876543210 4149D2ADED9456681EC8B511D9E7EE04")
+}
+
+pub fn settings(algorithm: usize, padding: usize, m: usize) -> Settings {
+    Settings { algorithm, padding, m }
+}
+
+pub struct Vector {
+    pub algorithm: usize,
+    pub padding: usize,
+    pub message: &'static [u8],
+    pub keys: Vec<u8>,
+    pub tag: Vec<u8>,
+    pub g: Vec<u8>,
+}
+
+pub fn annex_a() -> Vec<Vector> {
+    let lines = include_str!("../../../annex_a.txt").lines().filter(|line| !line.starts_with('#'));
+    let vector = |line: &str| {
+        let words: Vec<&str> = line.split(' ').collect();
+        Vector {
+            algorithm: words[0].parse().unwrap(),
+            padding: words[1].parse().unwrap(),
+            message: if words[2] == "1" { MESSAGE } else { &MESSAGE[..25] },
+            keys: hex(words[3]),
+            tag: hex(words[4]),
+            g: hex(words[5]),
+        }
+    };
+    lines.map(vector).collect()
+}
+
+/// The cipher calls by document 01's table.
+pub fn calls(algorithm: usize, padding: usize, bits: usize) -> u64 {
+    let filled = bits.div_ceil(128).max(1);
+    let q = [filled, bits / 128 + 1, filled + 1, filled][padding - 1];
+    (q + [0, 1, 2, 2, 1, 0, 0, 1][algorithm - 1]) as u64
+}

@@ -1,0 +1,32 @@
+-- `part_number` meets its contract: the part count of each case.
+-- Assumes nothing.
+use mathlib.Core.Path.{refl}
+use Rattle.slipseal.specs.Border.{partNumber}
+use borrow.Author.Needs.{needs}
+use Rattle.slipseal.proofs.part_number.Statement.{statement}
+use Rattle.slipseal.proofs.part_number.Tie as tie
+
+enum-told : tie.Need-enum-told
+enum-told c = search needs
+
+enum-told-2 : tie.Need-enum-told-2
+enum-told-2 c = search needs
+
+enum-known-phase : tie.Need-enum-known-phase
+enum-known-phase c = search needs
+
+returns : tie.Need-returns
+unfolding partNumber
+returns c = rw (c .enum-told .given .1) refl
+
+returns-2 : tie.Need-returns-2
+unfolding partNumber
+returns-2 c = rw (c .enum-told2 .given .1) refl
+
+returns-3 : tie.Need-returns-3
+unfolding partNumber
+returns-3 c = rw (c .before .phase .given .1) refl
+
+pub part-number-spec : {M : Type 1} → statement M
+part-number-spec =
+    tie.close (tie.spec enum-told enum-told-2 enum-known-phase returns returns-2 returns-3)

@@ -1,0 +1,145 @@
+/* slipseal: message authentication codes of GB/T 15852.1 over SM4, and sealed lot slips. Each function answers every input with
+ * numbers; there is no state, no allocation and no input or output behind it. The library is written and proved in Rattle; this
+ * header is not part of the proof and repeats crates/slipseal/src/lib.rt by hand.
+ *
+ * Link libslipseal.a or libslipseal.so (bindings/build makes both). Of the C library only memcpy is used.
+ *
+ * Pointers. No pointer may be null, not even where its length is 0; any other address does there. A pointer must be valid for its
+ * length, for writing too where it is not const, and nothing else may write to those bytes during the call. A buffer that is
+ * written must overlap none of the others. Nothing is kept between calls, so they may run in several threads at once.
+ *
+ * Messages. A message is bytes and a count of bits, the highest bit of a byte first; the bytes are exactly as many as hold the
+ * bits, and spare bits of the last byte have no influence. A tag is m bits in (m + 7) / 8 bytes, filled from the left, with zeros
+ * in the spare bits.
+ *
+ *   algorithm     padding   key bytes       m
+ *   1             1 to 3    16              1 to 128
+ *   2, 3, 4, 6    1 to 3    32, K then K'   1 to 128
+ *   5, 8          4         16              1 to 128
+ *   7             4         16              1 to 63
+ *
+ * Paddings: 1 is zeros; 2 is a one, then zeros; 3 is zeros, with the length in a block before the message; 4 is nothing for a
+ * message of one or more whole blocks, else as 2.
+ *
+ * Refusals. The first fault in the order told at each function is the one that is answered. A refusal writes nothing and reports
+ * no cipher calls.
+ *
+ *    1  the algorithm is not one of 1 to 8
+ *    2  the padding does not belong to the algorithm
+ *    3  the tag's number of bits is not allowed for the algorithm
+ *    4  the keys have the wrong length for the algorithm
+ *    5  the first key is the same as another and must differ
+ *    6  the second key is the same as the third and must differ
+ *    7  the message has the wrong number of bytes for its bits
+ *    8  the message has more than 8388608 bits
+ *    9  the message is too short for the algorithm
+ *   10  the tag or the room for it has the wrong number of bytes
+ *   11  the session is closed or its last piece ended within a byte
+ *   12  the message is not as long as was declared
+ *   20  the slip is cut short
+ *   21  a field is missing or out of order
+ *   22  a field's length or value is not allowed
+ *   23  the expiry is not a real date from 2000 to 2099
+ *   24  there are bytes after the seal
+ *   30  the seal is wrong
+ *
+ * Keys stay where the caller put them, and a session's record holds a copy. Copies that a call made on the stack are not wiped,
+ * and nothing is promised about how long a call takes. */
+#ifndef SLIPSEAL_H
+#define SLIPSEAL_H
+
+#if !defined(__x86_64__) || !defined(__LP64__) || !defined(__linux__)
+#error "slipseal is built for x86-64 Linux only"
+#endif
+
+#include <stddef.h>
+#include <stdint.h>
+
+#ifdef __cplusplus
+extern "C" {
+#endif
+
+/* What a call answers. number: 0, or the refusal's. yes: 1 for a made tag, a good finish and a tag checked to be right, else 0.
+ * calls: the cipher calls of the whole message; 0 for a refusal, a start and a piece.
+ * A checked tag is right where yes is 1. Number 0 alone does not say so: a wrong tag gives number 0 and yes 0. */
+typedef struct slipseal_answer {
+    uint64_t number;
+    uint64_t yes;
+    uint64_t calls;
+} slipseal_answer;
+
+/* A session's record. It goes into each call by value and the next one comes back; hand it on unaltered. Any content is answered.
+ * A record counts as closed where
+ *   - it is neither in phase 1 with part 0 and total % 8 = 0, nor in phase 2 with part 1 to 7 and total % 8 = part;
+ *   - a start would refuse its settings or keys;
+ *   - its total is over 8388608, or under padding 3 its declared length is, or its total is over its declared length;
+ *   - a bit of held past the bits that wait there is set. */
+typedef struct slipseal_session {
+    uint64_t phase;     /* 0 closed, 1 open at a byte edge, 2 open after a part byte */
+    uint64_t part;      /* the bits of the part byte, 1 to 7, in phase 2; else 0 */
+    uint64_t algorithm; /* the settings, as they were given to the start */
+    uint64_t padding;
+    uint64_t m;
+    uint64_t declared;  /* under padding 3 the declared number of bits; else 0 after a start, and not read */
+    uint64_t total;     /* the bits so far */
+    uint8_t keys[32];   /* K, then K'; zeros after a start, and not read, where the algorithm takes one key */
+    uint8_t chain[16];  /* the chain value */
+    uint8_t held[16];   /* the waiting block; no bits while total is 0, else (total - 1) % 128 + 1 */
+} slipseal_session;
+
+/* What a session's call answers, and the record for the next call. */
+typedef struct slipseal_step {
+    slipseal_answer answer;
+    slipseal_session session;
+} slipseal_step;
+
+/* What is read from a slip. A refusal has its number and zeros. */
+typedef struct slipseal_slip {
+    uint64_t number;  /* 0 for an accepted slip, else the refusal's */
+    uint64_t year;    /* the expiry: 2000 to 2099, 1 to 12, 1 to 31 */
+    uint64_t month;
+    uint64_t day;
+    uint64_t amount;  /* microlitres, 1 to 1000000 */
+    uint64_t calls;   /* the cipher calls of the seal's check */
+    uint64_t lot_at;  /* the lot is the lot_len bytes of the slip from lot_at on, 1 to 32 of them, each 21 to 7E */
+    uint64_t lot_len;
+} slipseal_slip;
+
+/* Makes the tag of a message. Refusals: 1 to 10, rising; 10 where tag_len is under (m + 7) / 8. Otherwise the tag is written into
+ * the first (m + 7) / 8 bytes at tag, the others stay, and the answer has number 0, yes 1 and the calls. */
+slipseal_answer slipseal_make(size_t algorithm, size_t padding, size_t m, const uint8_t *keys, size_t keys_len,
+                              const uint8_t *message, size_t message_len, size_t bits, uint8_t *tag, size_t tag_len);
+
+/* Checks the tag of a message. Refusals: 1 to 10, rising; 10 where tag_len is not (m + 7) / 8. Otherwise number is 0, yes is 1
+ * where the tag is the message's and 0 where it is not (a set spare bit too), and either way the calls are reported. */
+slipseal_answer slipseal_check(size_t algorithm, size_t padding, size_t m, const uint8_t *keys, size_t keys_len,
+                               const uint8_t *message, size_t message_len, size_t bits, const uint8_t *tag, size_t tag_len);
+
+/* Starts a session. declared is the message's number of bits; it is read under padding 3 only. Refusals: 1 to 6, rising, then 8
+ * where the declared length is over 8388608. A refused start hands back a closed record of zeros. Otherwise the answer is all
+ * zeros and the record is open. */
+slipseal_step slipseal_start(size_t algorithm, size_t padding, size_t m, const uint8_t *keys, size_t keys_len, size_t declared);
+
+/* Gives a session the next bits of the message; no bits are allowed. Only the last bits given may end within a byte. Refusals, in
+ * this order: 11 where the session is closed, or bits are given after a part byte; 7; 8 where the message would pass 8388608 bits;
+ * 12 where under padding 3 it would pass the declared length. A refusal hands back the very record that came. Otherwise the answer
+ * is all zeros and the record is open. */
+slipseal_step slipseal_piece(slipseal_session s, const uint8_t *bytes, size_t bytes_len, size_t bits);
+
+/* Ends a session. Refusals, in this order: 11 where the session is closed; 12 where under padding 3 fewer bits came than declared;
+ * 9; 10 where tag_len is under (m + 7) / 8. A refusal hands back the very record that came, so that more bits or more room may
+ * follow. Otherwise the tag is written as by slipseal_make, the answer has number 0, yes 1 and all the calls since the start, and
+ * the record is closed and zero throughout. */
+slipseal_step slipseal_finish(slipseal_session s, uint8_t *tag, size_t tag_len);
+
+/* Reads a lot slip under keys. Its seal names the algorithm, padding and m, and covers all bytes before field 7F, so not these
+ * three. Refusals, in this order: at each of the fields 01, 02, 03 and 7F, 20 for under 3 bytes left, 21 for another tag, 22 for a
+ * length that is not allowed, 20 for a value cut short, 22 for a wrong value, 23 for no real date of 2000 to 2099; then 24 for bytes
+ * after the seal; then 1 to 6; 10 where the seal's tag is not (m + 7) / 8 bytes long; 30 for a wrong seal. */
+slipseal_slip slipseal_read(const uint8_t *slip, size_t slip_len, const uint8_t *keys, size_t keys_len);
+
+#ifdef __cplusplus
+}
+#endif
+
+#endif
