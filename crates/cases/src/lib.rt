@@ -8,14 +8,22 @@
 //     finish ROOM                         as make
 //     forge PHASE PART A P M DECLARED TOTAL K K1 CHAIN HELD   forged: the session is now this record
 //     same                                whether the command on the session before this one left every field of it: same or changed
+//     halves A P M KEYS MESSAGE TAG CALLS   G of N cuts: of the N ways to cut the message in two at a byte, G end with the tag and the calls
+//     slip KEYS SLIP                      accepted DATE lot LOT at PLACE length BYTES amount AMOUNT calls CALLS, LOT being the part that
+//                                         comes back; or refused N, and "with values" where another field or the part is not empty
+//     changed KEYS SLIP                   the slip with each byte changed to every other value: how many are accepted, and how many get
+//                                         which refusal (31: one with values)
+//     prefixes KEYS SLIP                  the same for every beginning that is shorter than the slip
 //
 // Numbers are decimal and below 2^64. Bytes are hex digits, at most 4096 bytes, and - is no bytes. ROOM is a number of bytes up to
-// 32, each EE before the call. The five last commands act on one session, closed and zero at first, and print its phase after
+// 32, each EE before the call. The commands from start to same act on one session, closed and zero at first, and print its phase after
 // their answer; PHASE is 0 closed, 1 at a byte edge, 2 after a part byte of PART bits. A line that begins with # and an empty line
 // are printed alone; any other gets the answer error.
 mod answers;
+mod halves;
 mod longest;
 mod sessions;
+mod slips;
 mod words;
 
 pub use longest::run_longest;
@@ -68,6 +76,13 @@ fn command(line: &[u8], state: sessions::State) -> sessions::State {
     }
     if words::fits(line, b"check", b"nnnbbnb") {
         check(line);
+        return state;
+    }
+    if words::fits(line, b"halves", b"nnnbbbn") {
+        halves::run(line);
+        return state;
+    }
+    if slips::command(line) {
         return state;
     }
     sessions::command(line, state)

@@ -374,7 +374,8 @@ fn forge(r: &mut Random, record: &mut Record) {
     }
 }
 
-pub fn slip_case(r: &mut Random, results: &mut Results) {
+/// A slip and the settings whose keys it is read under.
+pub fn draw_slip(r: &mut Random) -> (Vec<u8>, Settings) {
     let mut s = Settings::draw(r);
     (s.algorithm, s.padding, s.m) = (s.algorithm % 256, s.padding % 256, s.m % 256);
     let (year, month, day) = match r.below(8) {
@@ -426,6 +427,11 @@ pub fn slip_case(r: &mut Random, results: &mut Results) {
         4 => slip[length as usize - 1] ^= 1 << r.below(8),
         _ => (),
     }
+    (slip, s)
+}
+
+pub fn slip_case(r: &mut Random, results: &mut Results) {
+    let (slip, s) = draw_slip(r);
     results.print("slip", &[], &[&slip, s.keys()]);
     let a = slip::read(&slip, s.keys());
     let words = [a.number, a.year, a.month, a.day, a.amount, a.calls, a.lot_at, a.lot_len];

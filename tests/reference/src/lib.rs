@@ -3,7 +3,7 @@
 //! Written from the documents alone, to produce expected outputs and to compare with.
 //!
 //! Programs: `tag` (one tag), `slip` (one slip), `cases` (generated cases), `commands` (generated command lines), `answer`
-//! (answers to command lines), `speed` (the baseline).
+//! (answers to command lines), `random` (the output of the gate's `run_random`), `speed` (the baseline).
 #![allow(clippy::manual_is_multiple_of, clippy::too_many_arguments)]
 
 pub mod call;

@@ -78,6 +78,30 @@ fn parse(slip: &[u8], keys: &[u8]) -> Result<Slip, u64> {
     Ok(Slip { number: 0, year, month, day, amount, calls: answer.calls, lot_at, lot_len })
 }
 
+/// How often each number was answered, 0 for an accepted slip.
+pub type Tally = std::collections::BTreeMap<u64, u64>;
+
+fn tally(slips: impl Iterator<Item = Vec<u8>>, keys: &[u8]) -> Tally {
+    let mut tally = Tally::new();
+    for slip in slips {
+        *tally.entry(read(&slip, keys).number).or_default() += 1;
+    }
+    tally
+}
+
+/// The slip with each byte replaced by every other value, one byte at a time.
+pub fn changed(slip: &[u8], keys: &[u8]) -> Tally {
+    let one = |at: usize, value: u8| [&slip[..at], &[value], &slip[at + 1..]].concat();
+    let others =
+        |at: usize| (0..=255).filter(move |value| *value != slip[at]).map(move |value| one(at, value));
+    tally((0..slip.len()).flat_map(others), keys)
+}
+
+/// The slip cut short, to every length below its own.
+pub fn prefixes(slip: &[u8], keys: &[u8]) -> Tally {
+    tally((0..slip.len()).map(|length| slip[..length].to_vec()), keys)
+}
+
 pub fn read(slip: &[u8], keys: &[u8]) -> Slip {
     parse(slip, keys).unwrap_or_else(|number| Slip { number, ..Slip::default() })
 }

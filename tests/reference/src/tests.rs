@@ -4,7 +4,7 @@
 use crate::call::LIMIT;
 use crate::cases::{self, Random, Results, Settings};
 use crate::session::{finish, piece, start, Record};
-use crate::slip::{read, Slip};
+use crate::slip::{self as slips, read, Slip};
 use crate::{check, hex, mac, make, padding, sm4, unhex, Answer};
 
 const K: &str = "0123456789ABCDEFFEDCBA9876543210";
@@ -574,6 +574,24 @@ fn slip_values() {
     }
     for (lot, number) in [(0, 22), (1, 0), (32, 0), (33, 22)] {
         assert_eq!(read(&slip("20261104", &vec![b'~'; lot], 1), &h(K)).number, number);
+    }
+}
+
+/// With a full tag whose last bit is set, no byte of the slip can be changed and none left out at the end.
+/// Where that bit is not set, m = 127 is a right seal too, since the seal does not cover m.
+#[test]
+fn slips_changed_and_cut() {
+    let covered = h(COVERED);
+    for lot in [b'7', b'8', b'9'] {
+        let covered = [&covered[..15], &[lot], &covered[16..]].concat();
+        let tag = made(5, 4, 128, &h(K), &covered, 184).1;
+        let slip = [covered, h("7F0013050480"), tag.clone()].concat();
+        let open = tag[15] % 2 == 0;
+        assert_eq!(read(&slip, &h(K)).number, 0);
+        let changed = slips::changed(&slip, &h(K));
+        assert_eq!(changed.values().sum::<u64>(), 255 * slip.len() as u64);
+        assert_eq!(changed.contains_key(&0), open);
+        assert_eq!(slips::prefixes(&slip, &h(K)), [(20, slip.len() as u64)].into());
     }
 }
 

@@ -3,6 +3,7 @@
 //!     make A P M KEYS MESSAGE BITS ROOM    check A P M KEYS MESSAGE BITS TAG
 //!     start A P M KEYS DECLARED    piece BYTES BITS    finish ROOM    same
 //!     forge PHASE PART A P M DECLARED TOTAL K K1 CHAIN HELD
+//!     halves A P M KEYS MESSAGE TAG CALLS    slip KEYS SLIP    changed KEYS SLIP    prefixes KEYS SLIP
 //!
 //! Words have one blank between them. Numbers are decimal, below 2^64. Bytes are hex digits, at most 4096 bytes, and - is no
 //! bytes. ROOM is a number up to 32: the room's bytes are EE before the call. PHASE is 0 closed, 1 edge, 2 part (with PART).
@@ -10,6 +11,7 @@
 //! the last of them left the record as it was. A line that begins with # and an empty line are printed alone.
 
 use reference::session::{self, Record};
+use reference::slip::{self, Tally};
 use reference::{check, hex, make, unhex, Answer};
 use std::io::Read;
 
@@ -53,6 +55,41 @@ fn accepted(answer: Answer) -> String {
     }
 }
 
+/// In how many of the sessions of two pieces, one for each byte to cut at, the tag and the calls come out.
+fn halves(settings: [u64; 3], keys: &[u8], message: &[u8], tag: &[u8], calls: u64) -> String {
+    let [a, p, m] = settings;
+    let bits = |bytes: &[u8]| 8 * bytes.len() as u64;
+    let comes_out = |at: &usize| {
+        let (one, two) = message.split_at(*at);
+        let (record, _) = session::start(a, p, m, keys, bits(message));
+        let (record, _) = session::piece(record, one, bits(one));
+        let (record, _) = session::piece(record, two, bits(two));
+        let mut room = [FILL; 16];
+        let (_, answer) = session::finish(record, &mut room);
+        answer == Answer { number: 0, yes: 1, calls } && room.starts_with(tag)
+    };
+    let good = (0..=message.len()).filter(comes_out).count();
+    format!("{good} of {} cuts", message.len() + 1)
+}
+
+fn read(slip: &[u8], keys: &[u8]) -> String {
+    let s = slip::read(slip, keys);
+    if s.number != 0 {
+        return format!("refused {}", s.number);
+    }
+    let (at, length) = (s.lot_at as usize, s.lot_len as usize);
+    let date = format!("{}-{:02}-{:02}", s.year, s.month, s.day);
+    let lot = String::from_utf8_lossy(&slip[at..at + length]);
+    format!("accepted {date} lot {lot} at {at} length {length} amount {} calls {}", s.amount, s.calls)
+}
+
+fn counted(tally: Tally) -> String {
+    let accepted = tally.get(&0).unwrap_or(&0);
+    let refused = tally.iter().filter(|(number, _)| **number != 0);
+    let refused: String = refused.map(|(number, count)| format!(", {count} refused {number}")).collect();
+    format!("{accepted} accepted{refused}")
+}
+
 struct State {
     record: Record,
     same: bool,
@@ -91,6 +128,13 @@ impl State {
                     (number, _) => format!("refused {number}"),
                 })
             }
+            ["halves", a, p, m, keys, message, tag, calls] => {
+                let settings = [number(a)?, number(p)?, number(m)?];
+                Some(halves(settings, &bytes(keys)?, &bytes(message)?, &bytes(tag)?, number(calls)?))
+            }
+            ["slip", keys, slip] => Some(read(&bytes(slip)?, &bytes(keys)?)),
+            ["changed", keys, slip] => Some(counted(slip::changed(&bytes(slip)?, &bytes(keys)?))),
+            ["prefixes", keys, slip] => Some(counted(slip::prefixes(&bytes(slip)?, &bytes(keys)?))),
             ["start", a, p, m, keys, declared] => {
                 let (next, answer) =
                     session::start(number(a)?, number(p)?, number(m)?, &bytes(keys)?, number(declared)?);

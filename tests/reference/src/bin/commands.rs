@@ -1,10 +1,11 @@
 //! commands call SEED COUNT: pseudo-random make and check lines for the bin `answer`, two for each of COUNT cases.
+//! commands slip SEED COUNT: pseudo-random slip lines, one for each of COUNT cases, the slips that `cases` draws.
 //!
-//! A case draws the settings as `cases` does, a message of up to three blocks near their borders, and now and then a wrong
+//! A call draws the settings as `cases` does, a message of up to three blocks near their borders, and now and then a wrong
 //! slice length, a far bit count, a room or a tag of another size. The tag offered is the right one, where there is one, in one
 //! case of three with one bit turned, which may be a spare one.
 
-use reference::cases::{Random, Settings, BITS};
+use reference::cases::{draw_slip, Random, Settings, BITS};
 use reference::padding::bytes_for;
 use reference::{hex, make};
 
@@ -49,15 +50,24 @@ fn call(r: &mut Random) {
     println!("check {call} {}", word(&tag[..offered]));
 }
 
+fn slip(r: &mut Random) {
+    let (slip, s) = draw_slip(r);
+    println!("slip {} {}", word(s.keys()), word(&slip));
+}
+
 fn main() {
     let words: Vec<String> = std::env::args().collect();
     let number = |i: usize| words.get(i).and_then(|word| word.parse::<u64>().ok());
-    let (Some("call"), Some(seed), Some(count)) = (words.get(1).map(|w| w.as_str()), number(2), number(3))
-    else {
-        return eprintln!("commands call SEED COUNT");
+    let kind = match words.get(1).map(|word| word.as_str()) {
+        Some("call") => Some(call as fn(&mut Random)),
+        Some("slip") => Some(slip as fn(&mut Random)),
+        _ => None,
+    };
+    let (Some(kind), Some(seed), Some(count)) = (kind, number(2), number(3)) else {
+        return eprintln!("commands call|slip SEED COUNT");
     };
     let mut random = Random::new(seed);
     for _ in 0..count {
-        call(&mut random);
+        kind(&mut random);
     }
 }

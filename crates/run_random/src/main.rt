@@ -1,0 +1,4 @@
+// Pseudo-random calls, sessions and slips.
+fn main() {
+    random::run();
+}

@@ -1,0 +1,147 @@
+//! What the cases are drawn from: settings with independent faults, and messages near the borders of blocks and bytes.
+//! Each fault comes about once in sixteen, so that most cases have none, and some several.
+
+use reference::call::LIMIT;
+use reference::cases::Random;
+use reference::mac::{m_limit, two_keys};
+use reference::padding::bytes_for;
+
+/// True once in so many times.
+pub fn once_in(r: &mut Random, n: u64) -> bool {
+    r.below(n) == 0
+}
+
+fn one_of(r: &mut Random, numbers: &[u64]) -> u64 {
+    numbers[r.below(numbers.len() as u64) as usize]
+}
+
+/// A number far off: one that a narrower type would cut to a small one, or any at all.
+pub fn far(r: &mut Random) -> u64 {
+    match r.below(6) {
+        0 => 256 * (1 + r.below(255)) + r.below(130),
+        1 => ((1 + r.below(255)) << 32) + r.below(130),
+        2 => (1 << 63) + r.below(130),
+        3 => u64::MAX - r.below(9),
+        4 => 0,
+        _ => r.draw() >> r.below(64),
+    }
+}
+
+/// A bit count that no lent message has.
+pub fn far_bits(r: &mut Random) -> u64 {
+    match r.below(3) {
+        0 => one_of(r, &[LIMIT, LIMIT + 1, 1 << 32, (1 << 32) + 8, 1 << 61, 1 << 63]),
+        1 => u64::MAX - r.below(16),
+        _ => r.draw() >> r.below(40),
+    }
+}
+
+#[derive(Clone)]
+pub struct Settings {
+    pub numbers: [u64; 3],
+    pub keys: Vec<u8>,
+}
+
+impl Settings {
+    /// Settings that may have each of the faults 1 to 5.
+    pub fn draw(r: &mut Random) -> Settings {
+        let mut algorithm = 1 + r.below(8);
+        if once_in(r, 20) {
+            algorithm = if once_in(r, 2) { 9 } else { far(r) };
+        }
+        let padding = match r.below(20) {
+            0 => r.below(6),
+            1 => far(r),
+            _ => fitting(r, algorithm),
+        };
+        let limit = m_limit(algorithm);
+        let m = match r.below(16) {
+            0 => far(r),
+            1 => limit + r.below(3),
+            2 | 3 => (8 * r.below(17)).min(limit),
+            4 | 5 => limit,
+            _ => 1 + r.below(limit),
+        };
+        let wanted = if two_keys(algorithm) { 32 } else { 16 };
+        let count = match r.below(40) {
+            0 => r.below(49),
+            1 => wanted - 1,
+            2 => wanted + 1,
+            3 => 48 - wanted,
+            _ => wanted,
+        };
+        let mut keys = vec![0; 48];
+        r.fill(&mut keys);
+        if once_in(r, 5) {
+            let (one, two) = keys.split_at_mut(16);
+            two[..16].copy_from_slice(one);
+            match r.below(4) {
+                0 => two[..16].iter_mut().for_each(|byte| *byte ^= 0xF0), // K = K''
+                1 => two[..16].iter_mut().for_each(|byte| *byte ^= 0x0F),
+                2 => two[r.below(16) as usize] ^= 1 << r.below(8),
+                _ => (),
+            }
+        }
+        keys.truncate(count as usize);
+        Settings { numbers: [algorithm, padding, m], keys }
+    }
+
+    /// Settings that pass, for an algorithm of 1 to 8.
+    pub fn sound(r: &mut Random, algorithm: u64) -> Settings {
+        let mut keys = vec![0; if two_keys(algorithm) { 32 } else { 16 }];
+        r.fill(&mut keys);
+        Settings { numbers: [algorithm, fitting(r, algorithm), 1 + r.below(m_limit(algorithm))], keys }
+    }
+
+    pub fn algorithm(&self) -> u64 {
+        self.numbers[0]
+    }
+
+    /// ⌈m/8⌉, or 16 where m is no size.
+    pub fn tag_size(&self) -> usize {
+        match self.numbers[2] {
+            m @ 1..=128 => bytes_for(m) as usize,
+            _ => 16,
+        }
+    }
+}
+
+fn fitting(r: &mut Random, algorithm: u64) -> u64 {
+    match algorithm {
+        5 | 7 | 8 => 4,
+        _ => 1 + r.below(3),
+    }
+}
+
+/// A bit count: near the border of a block, of some hundred bytes, or now and then of some thousand; for algorithm 4 often short.
+pub fn bits(r: &mut Random, algorithm: u64) -> u64 {
+    if algorithm == 4 && once_in(r, 4) {
+        return r.below(130);
+    }
+    match r.below(64) {
+        0 => r.below(8 * 8192),
+        1 => 128 * r.below(512),
+        2..=20 => r.below(8 * 400),
+        21..=30 => 128 * r.below(12),
+        31..=40 => 8 * r.below(200),
+        _ => (128 * r.below(8) + r.below(20)).saturating_sub(10),
+    }
+}
+
+/// The bytes that hold so many bits, spare bits drawn like the others.
+pub fn message(r: &mut Random, bits: u64) -> Vec<u8> {
+    let mut bytes = vec![0; bytes_for(bits) as usize];
+    r.fill(&mut bytes);
+    bytes
+}
+
+/// The size of a room or of an offered tag: mostly what is asked.
+pub fn near(r: &mut Random, size: usize) -> usize {
+    match r.below(24) {
+        0 => size - 1,
+        1 => r.below(size as u64) as usize,
+        2..=4 => size + 1,
+        5..=8 => size + r.below(20) as usize,
+        _ => size,
+    }
+}

@@ -1,0 +1,50 @@
+//! The library's six functions, as the Rust binding calls them through C, answering in the reference's types. Nothing is judged
+//! here: what comes is handed on, and what comes back is handed back, field by field.
+
+use reference::session::Record;
+use reference::slip::Slip;
+use reference::Answer;
+use slipseal::raw;
+
+fn answer(a: raw::Answer) -> Answer {
+    Answer { number: a.number, yes: a.yes, calls: a.calls }
+}
+
+fn inward(r: &Record) -> raw::Record {
+    let Record { phase, part, algorithm, padding, m, declared, total, keys, chain, held } = *r;
+    raw::Record { phase, part, algorithm, padding, m, declared, total, keys, chain, held }
+}
+
+fn step(out: raw::Step) -> (Record, Answer) {
+    let raw::Record { phase, part, algorithm, padding, m, declared, total, keys, chain, held } = out.session;
+    let record = Record { phase, part, algorithm, padding, m, declared, total, keys, chain, held };
+    (record, answer(out.answer))
+}
+
+pub fn make(settings: [u64; 3], keys: &[u8], message: &[u8], bits: u64, room: &mut [u8]) -> Answer {
+    let [a, p, m] = settings.map(|n| n as usize);
+    answer(raw::make(a, p, m, keys, message, bits as usize, room))
+}
+
+pub fn check(settings: [u64; 3], keys: &[u8], message: &[u8], bits: u64, offered: &[u8]) -> Answer {
+    let [a, p, m] = settings.map(|n| n as usize);
+    answer(raw::check(a, p, m, keys, message, bits as usize, offered))
+}
+
+pub fn start(settings: [u64; 3], keys: &[u8], declared: u64) -> (Record, Answer) {
+    let [a, p, m] = settings.map(|n| n as usize);
+    step(raw::start(a, p, m, keys, declared as usize))
+}
+
+pub fn piece(record: &Record, bytes: &[u8], bits: u64) -> (Record, Answer) {
+    step(raw::piece(inward(record), bytes, bits as usize))
+}
+
+pub fn finish(record: &Record, room: &mut [u8]) -> (Record, Answer) {
+    step(raw::finish(inward(record), room))
+}
+
+pub fn read(slip: &[u8], keys: &[u8]) -> Slip {
+    let raw::Slip { number, year, month, day, amount, calls, lot_at, lot_len } = raw::read(slip, keys);
+    Slip { number, year, month, day, amount, calls, lot_at, lot_len }
+}

@@ -1,0 +1,104 @@
+//! differential [SEED [COUNT]]: compares the proved library with the reference on COUNT pseudo-random cases, half of them one
+//! call, a quarter sessions, a quarter slips; then on one slip of each algorithm and padding cut and changed everywhere, and on
+//! the longest message. differential SEED KIND INDEX runs one case again (call, session, slip, every, border).
+//! Ends with status 1 at the first difference, and where, in 100,000 cases or more, an answer that can arise came too seldom.
+
+use differential::run::Run;
+use differential::{border, calls, sessions, slips};
+use reference::cases::Random;
+use reference::mac::padding_fits;
+use std::time::Instant;
+
+const SEED: u64 = 20_261_104;
+const COUNT: u64 = 400_000;
+
+/// The answers that can arise, of each function.
+const ANSWERS: [(&str, &[&str]); 6] = [
+    ("make", &["0", "1", "2", "3", "4", "5", "7", "8", "9", "10"]),
+    ("check", &["yes", "no", "1", "2", "3", "4", "5", "7", "8", "9", "10"]),
+    ("start", &["0", "1", "2", "3", "4", "5", "8"]),
+    ("piece", &["0", "11", "7", "8", "12"]),
+    ("finish", &["0", "11", "12", "9", "10"]),
+    ("read", &["0", "20", "21", "22", "23", "24", "1", "2", "3", "4", "5", "10", "30"]),
+];
+
+const KINDS: [&str; 5] = ["call", "session", "slip", "every", "border"];
+
+/// The algorithms, each with each of its paddings.
+fn pairs() -> Vec<[u64; 2]> {
+    let all = (1..=8).flat_map(|a| (1..=4).map(move |p| [a, p]));
+    all.filter(|[a, p]| padding_fits(*a, *p)).collect()
+}
+
+fn case(run: &mut Run, seed: u64, kind: usize, index: u64) {
+    run.case = format!("{seed} {} {index}", KINDS[kind]);
+    let mixed = seed.wrapping_mul(0x9E37_79B9_7F4A_7C15) ^ index.wrapping_mul(0xD134_2543_DE82_EF95);
+    let r = &mut Random::new(mixed.wrapping_add((kind as u64) << 60));
+    match KINDS[kind] {
+        "call" => calls::case(r, run),
+        "session" => sessions::case(r, run),
+        "slip" => slips::case(r, run),
+        "every" => slips::every(r, run, pairs()[index as usize % pairs().len()]),
+        _ if index == 0 => border::known(r, run),
+        _ => border::case(r, run, pairs()[(index as usize - 1) % pairs().len()]),
+    }
+}
+
+fn whole(run: &mut Run, seed: u64, count: u64) -> bool {
+    let begin = Instant::now();
+    let pairs = pairs().len() as u64;
+    let mut cases = 0;
+    println!("seed {seed}");
+    for (kind, share) in [count / 2, count / 4, count / 4, pairs, 1 + pairs].into_iter().enumerate() {
+        let (from, before) = (Instant::now(), run.calls());
+        (0..share).for_each(|index| case(run, seed, kind, index));
+        cases += share;
+        let (calls, seconds) = (run.calls() - before, from.elapsed().as_secs_f64());
+        println!("{:8} {share:7} cases, {calls:8} calls compared, {seconds:5.1} s", KINDS[kind]);
+    }
+    let mut seldom = Vec::new();
+    for (function, answers) in ANSWERS {
+        let all: u64 = run.answers.get(function).map_or(0, |answers| answers.values().sum());
+        let counts = answers.iter().map(|answer| format!("  {answer}: {}", run.often(function, answer)));
+        println!("{function:8}{}", counts.collect::<String>());
+        for answer in answers {
+            if run.often(function, answer) <= all / 1000 {
+                seldom.push(format!("{function} {answer}"));
+            }
+        }
+    }
+    println!("sessions with nothing forged that ended like one call: {}", run.joined);
+    let (calls, seconds) = (run.calls(), begin.elapsed().as_secs_f64());
+    if count >= 100_000 && !seldom.is_empty() {
+        println!("differential: too seldom: {}", seldom.join(", "));
+        return false;
+    }
+    println!(
+        "differential: no difference in {cases} cases, {calls} calls compared, seed {seed}, {seconds:.1} s"
+    );
+    true
+}
+
+fn main() {
+    let words: Vec<String> = std::env::args().skip(1).collect();
+    let number = |i: usize, default: u64| words.get(i).map_or(Some(default), |word| word.parse::<u64>().ok());
+    let kind = words.get(1).and_then(|word| KINDS.iter().position(|kind| kind == word));
+    let mut run = Run::new();
+    match (number(0, SEED), kind, number(1, COUNT), number(2, 0)) {
+        (Some(seed), Some(kind), _, Some(index)) => {
+            case(&mut run, seed, kind, index);
+            println!("differential: no difference in {}", run.case);
+        }
+        (Some(seed), None, Some(count), _) if words.len() < 3 => {
+            if !whole(&mut run, seed, count) {
+                std::process::exit(1);
+            }
+        }
+        _ => {
+            eprintln!(
+                "differential [SEED [COUNT]]    differential SEED call|session|slip|every|border INDEX"
+            );
+            std::process::exit(2);
+        }
+    }
+}

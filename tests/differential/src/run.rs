@@ -1,0 +1,158 @@
+//! One run: its seed, what is being compared, and how often each answer came.
+//! The first difference ends the run with a line that repeats it.
+
+use crate::library;
+use reference::session::{self, Record};
+use reference::{hex, Answer};
+use std::collections::BTreeMap;
+use std::fmt::Debug;
+
+/// Bytes before and after a lent room; they stay as they are.
+const GUARD: usize = 8;
+
+pub struct Run {
+    /// The words that repeat the case at hand.
+    pub case: String,
+    /// Of each function, how often each number was answered; a checked "yes" and "no" stand apart.
+    pub answers: BTreeMap<&'static str, BTreeMap<String, u64>>,
+    /// Sessions whose tag and calls were those of one call.
+    pub joined: u64,
+}
+
+/// Bytes as a word of the reference's command lines.
+pub fn word(bytes: &[u8]) -> String {
+    match bytes.len() {
+        0 => "-".to_string(),
+        1..=4096 => hex(bytes),
+        count => format!("({count} bytes from {})", hex(&bytes[..16])),
+    }
+}
+
+/// A record as the reference's command `forge` takes it.
+fn forge(r: &Record) -> String {
+    let numbers = [r.phase, r.part, r.algorithm, r.padding, r.m, r.declared, r.total];
+    let numbers: String = numbers.iter().map(|number| format!(" {number}")).collect();
+    format!("forge{numbers} {} {} {} {}", hex(&r.keys[..16]), hex(&r.keys[16..]), hex(&r.chain), hex(&r.held))
+}
+
+/// A room of so many bytes in the middle of a longer buffer of pseudo-random bytes.
+#[derive(Clone)]
+pub struct Room {
+    bytes: Vec<u8>,
+}
+
+impl Room {
+    pub fn new(r: &mut reference::cases::Random, size: usize) -> Room {
+        let mut bytes = vec![0; size + 2 * GUARD];
+        r.fill(&mut bytes);
+        Room { bytes }
+    }
+
+    fn inner(&mut self) -> &mut [u8] {
+        let end = self.bytes.len() - GUARD;
+        &mut self.bytes[GUARD..end]
+    }
+}
+
+impl Run {
+    pub fn new() -> Run {
+        Run { case: String::new(), answers: BTreeMap::new(), joined: 0 }
+    }
+
+    pub fn fail(&self, what: &str) -> ! {
+        println!("DIFFERENT, repeat by `differential {}`: {what}", self.case);
+        std::process::exit(1);
+    }
+
+    /// Two answers that must be the same.
+    pub fn same<T: PartialEq + Debug>(&self, library: &T, reference: &T, what: impl Fn() -> String) {
+        if library != reference {
+            self.fail(&format!("{} -> library {library:?}, reference {reference:?}", what()));
+        }
+    }
+
+    fn count(&mut self, function: &'static str, answer: String) {
+        *self.answers.entry(function).or_default().entry(answer).or_default() += 1;
+    }
+
+    pub fn calls(&self) -> u64 {
+        self.answers.values().flat_map(|answers| answers.values()).sum()
+    }
+
+    /// How often a function gave an answer.
+    pub fn often(&self, function: &str, answer: &str) -> u64 {
+        self.answers.get(function).and_then(|answers| answers.get(answer)).copied().unwrap_or(0)
+    }
+
+    pub fn make(&mut self, s: [u64; 3], keys: &[u8], message: &[u8], bits: u64, room: Room) -> Answer {
+        let (mut ours, mut theirs) = (room.clone(), room);
+        let size = ours.inner().len();
+        let [a, p, m] = s;
+        let got = library::make(s, keys, message, bits, ours.inner());
+        let want = reference::make(a, p, m, keys, message, bits, theirs.inner());
+        let line = || format!("make {a} {p} {m} {} {} {bits} {size}", word(keys), word(message));
+        self.same(&got, &want, line);
+        self.same(&ours.bytes, &theirs.bytes, || format!("{} (room)", line()));
+        self.count("make", want.number.to_string());
+        want
+    }
+
+    pub fn check(&mut self, s: [u64; 3], keys: &[u8], message: &[u8], bits: u64, tag: &[u8]) -> Answer {
+        let [a, p, m] = s;
+        let got = library::check(s, keys, message, bits, tag);
+        let want = reference::check(a, p, m, keys, message, bits, tag);
+        let line = || format!("check {a} {p} {m} {} {} {bits} {}", word(keys), word(message), word(tag));
+        self.same(&got, &want, line);
+        let told = match (want.number, want.yes) {
+            (0, 1) => "yes".to_string(),
+            (0, _) => "no".to_string(),
+            (number, _) => number.to_string(),
+        };
+        self.count("check", told);
+        want
+    }
+
+    pub fn start(&mut self, s: [u64; 3], keys: &[u8], declared: u64) -> (Record, Answer) {
+        let [a, p, m] = s;
+        let got = library::start(s, keys, declared);
+        let want = session::start(a, p, m, keys, declared);
+        self.same(&got, &want, || format!("start {a} {p} {m} {} {declared}", word(keys)));
+        self.count("start", want.1.number.to_string());
+        want
+    }
+
+    pub fn piece(&mut self, record: &Record, bytes: &[u8], bits: u64) -> (Record, Answer) {
+        let got = library::piece(record, bytes, bits);
+        let want = session::piece(*record, bytes, bits);
+        self.same(&got, &want, || format!("{}; piece {} {bits}", forge(record), word(bytes)));
+        self.count("piece", want.1.number.to_string());
+        want
+    }
+
+    /// The record, the answer, and the bytes of the room.
+    pub fn finish(&mut self, record: &Record, room: Room) -> (Record, Answer, Vec<u8>) {
+        let (mut ours, mut theirs) = (room.clone(), room);
+        let size = ours.inner().len();
+        let got = library::finish(record, ours.inner());
+        let want = session::finish(*record, theirs.inner());
+        let line = || format!("{}; finish {size}", forge(record));
+        self.same(&got, &want, line);
+        self.same(&ours.bytes, &theirs.bytes, || format!("{} (room)", line()));
+        self.count("finish", want.1.number.to_string());
+        (want.0, want.1, theirs.inner().to_vec())
+    }
+
+    pub fn read(&mut self, slip: &[u8], keys: &[u8]) -> u64 {
+        let got = library::read(slip, keys);
+        let want = reference::slip::read(slip, keys);
+        self.same(&got, &want, || format!("slip {} {}", word(keys), word(slip)));
+        self.count("read", want.number.to_string());
+        want.number
+    }
+}
+
+impl Default for Run {
+    fn default() -> Run {
+        Run::new()
+    }
+}

@@ -1,0 +1,145 @@
+//! Lot slips: whole ones under every algorithm, cut, lengthened, changed in a byte or a bit, with fields left out, doubled or
+//! exchanged, under other keys, and bytes that are no slip. One slip of each kind is cut everywhere and changed everywhere.
+
+use crate::draw::{once_in, Settings};
+use crate::run::Run;
+use reference::cases::{draw_slip, Random};
+use reference::padding::bytes_for;
+
+fn field(tag: u8, value: &[u8]) -> Vec<u8> {
+    [&[tag, 0, value.len() as u8], value].concat()
+}
+
+fn digits(r: &mut Random) -> Vec<u8> {
+    let (year, month, day) = match r.below(8) {
+        0 => (r.below(10_000), r.below(100), r.below(100)),
+        1 => (1999 + r.below(102), r.below(14), r.below(33)),
+        2 => (2000 + r.below(100), 2, 28 + r.below(3)),
+        _ => (2000 + r.below(100), 1 + r.below(12), 1 + r.below(28)),
+    };
+    format!("{year:04}{month:02}{day:02}").into_bytes()
+}
+
+/// The three fields that a seal covers; mostly right ones.
+fn covered(r: &mut Random) -> Vec<Vec<u8>> {
+    let expiry = digits(r);
+    let size = if once_in(r, 24) { r.below(36) } else { 1 + r.below(32) };
+    let lot: Vec<u8> = (0..size).map(|_| 0x21 + r.below(94) as u8).collect();
+    let amount = match r.below(12) {
+        0 => r.below(3) as u32,
+        1 => 1_000_001 - r.below(3) as u32,
+        2 => r.draw() as u32,
+        _ => 1 + r.below(1_000_000) as u32,
+    };
+    vec![field(1, &expiry), field(2, &lot), field(3, &amount.to_be_bytes())]
+}
+
+/// The seal of some bytes, with the tag that is right where the settings are.
+fn seal(s: &Settings, covered: &[u8]) -> Vec<u8> {
+    let [a, p, m] = s.numbers.map(|number| number % 256);
+    let mut tag = [0xA5; 16];
+    reference::make(a, p, m, &s.keys, covered, 8 * covered.len() as u64, &mut tag);
+    field(0x7F, &[&[a as u8, p as u8, m as u8], &tag[..s.tag_size()]].concat())
+}
+
+pub fn case(r: &mut Random, run: &mut Run) {
+    let (slip, keys) = match r.below(8) {
+        0 => {
+            let (slip, s) = draw_slip(r);
+            (slip, s.keys().to_vec())
+        }
+        1 => (noise(r), Settings::draw(r).keys),
+        2..=4 => changed(r),
+        _ => exchanged(r),
+    };
+    run.read(&slip, &keys);
+}
+
+/// Bytes that are no slip, or begin like one.
+fn noise(r: &mut Random) -> Vec<u8> {
+    let start = covered(r).concat();
+    let mut out = start[..r.below(start.len() as u64 + 1) as usize].to_vec();
+    let mut more = vec![0; r.below(60) as usize];
+    r.fill(&mut more);
+    out.extend(more);
+    out
+}
+
+/// A slip, mostly sound, changed after it was sealed.
+fn changed(r: &mut Random) -> (Vec<u8>, Vec<u8>) {
+    let sound = 1 + r.below(8);
+    let mut s = if once_in(r, 2) { Settings::draw(r) } else { Settings::sound(r, sound) };
+    let part = covered(r).concat();
+    let mut slip = [&part[..], &seal(&s, &part)].concat();
+    let length = slip.len() as u64;
+    match r.below(12) {
+        0 => slip.truncate(r.below(length + 1) as usize),
+        1 => (0..=r.below(70)).for_each(|_| slip.push(r.below(256) as u8)),
+        2 => slip[r.below(length) as usize] = r.below(256) as u8,
+        3 => slip[r.below(length) as usize] ^= 1 << r.below(8),
+        4 => slip[(length - 1) as usize] ^= 1 << r.below(8),
+        5 => {
+            // The seal's length and its bytes fit each other, and not m.
+            let tag = 1 + r.below(16) as usize;
+            slip.truncate(part.len() + 6);
+            slip[part.len() + 2] = 3 + tag as u8;
+            (0..tag).for_each(|_| slip.push(r.below(256) as u8));
+        }
+        6 if !s.keys.is_empty() => s.keys[0] ^= 1 << r.below(8),
+        7 => s.keys.truncate(r.below(17) as usize),
+        8 if s.keys.len() == 32 => s.keys.copy_within(..16, 16),
+        _ => (),
+    }
+    (slip, s.keys)
+}
+
+/// A slip whose fields before the seal are left out, doubled or exchanged now and then, and then sealed.
+fn exchanged(r: &mut Random) -> (Vec<u8>, Vec<u8>) {
+    let sound = 1 + r.below(8);
+    let s = Settings::sound(r, sound);
+    let mut fields = covered(r);
+    let place = r.below(3) as usize;
+    match r.below(8) {
+        0 => drop(fields.remove(place)),
+        1 => fields.insert(place, fields[r.below(3) as usize].clone()),
+        2 => fields.swap(place, r.below(3) as usize),
+        3 => fields[place].insert(3, 0x30 + r.below(10) as u8),
+        4 => fields[place] = field(1 + place as u8, &vec![0x31; r.below(40) as usize]),
+        _ => (),
+    }
+    let part = fields.concat();
+    ([&part[..], &seal(&s, &part)].concat(), s.keys)
+}
+
+/// A sound slip, cut to every length and changed in every byte to every value.
+pub fn every(r: &mut Random, run: &mut Run, [algorithm, padding]: [u64; 2]) {
+    let mut s = Settings::sound(r, algorithm);
+    s.numbers[1] = padding;
+    let mut part = covered(r).concat();
+    let mut slip = [&part[..], &seal(&s, &part)].concat();
+    while run.read(&slip, &s.keys) != 0 {
+        part = covered(r).concat();
+        slip = [&part[..], &seal(&s, &part)].concat();
+    }
+    for length in 0..slip.len() {
+        run.read(&slip[..length], &s.keys);
+    }
+    for place in 0..slip.len() {
+        let was = slip[place];
+        for turned in 1..=255 {
+            slip[place] = was ^ turned;
+            run.read(&slip, &s.keys);
+        }
+        slip[place] = was;
+    }
+    // Every m and every length of the tag, beside the right bytes.
+    let at = part.len();
+    let mut tag = [0; 16];
+    reference::make(algorithm, padding, s.numbers[2], &s.keys, &part, 8 * at as u64, &mut tag);
+    for m in 0..=129 {
+        for size in [1, bytes_for(m), bytes_for(m) + 1].map(|size| size.clamp(1, 16) as usize) {
+            let value = [&[algorithm as u8, padding as u8, m as u8], &tag[..size]].concat();
+            run.read(&[&part[..], &field(0x7F, &value)].concat(), &s.keys);
+        }
+    }
+}
