@@ -1,0 +1,100 @@
+//! The measured work, each piece as the library does it and as the baseline does it: a tag in one call, a session, a slip read.
+//! Answers are turned into plain numbers, so that the two can be compared.
+
+use crate::measure::{Line, Way};
+use reference::{session, slip};
+use slipseal::raw;
+use std::hint::black_box;
+
+pub const MESSAGE_BYTES: usize = 1 << 20;
+const MESSAGE_BITS: usize = 8 * MESSAGE_BYTES;
+const PIECE_BYTES: usize = 64 << 10;
+const SLIPS_EACH_TIME: usize = 1000;
+
+/// A tag of 128 bits; number, yes and calls.
+pub type Tagged = ([u8; 16], [u64; 3]);
+
+pub fn library_make(algorithm: usize, padding: usize, key: &[u8], message: &[u8]) -> Tagged {
+    let mut tag = [0; 16];
+    let answer = raw::make(algorithm, padding, 128, key, message, MESSAGE_BITS, &mut tag);
+    (tag, [answer.number, answer.yes, answer.calls])
+}
+
+pub fn baseline_make(algorithm: usize, padding: usize, key: &[u8], message: &[u8]) -> Tagged {
+    let mut tag = [0; 16];
+    let (algorithm, padding, bits) = (algorithm as u64, padding as u64, MESSAGE_BITS as u64);
+    let answer = reference::make(algorithm, padding, 128, key, message, bits, &mut tag);
+    (tag, [answer.number, answer.yes, answer.calls])
+}
+
+pub fn library_session(key: &[u8], message: &[u8]) -> Tagged {
+    let mut step = raw::start(1, 1, 128, key, 0);
+    for piece in message.chunks(PIECE_BYTES) {
+        step = raw::piece(step.session, piece, 8 * piece.len());
+    }
+    let mut tag = [0; 16];
+    let answer = raw::finish(step.session, &mut tag).answer;
+    (tag, [answer.number, answer.yes, answer.calls])
+}
+
+pub fn baseline_session(key: &[u8], message: &[u8]) -> Tagged {
+    let (mut record, _) = session::start(1, 1, 128, key, 0);
+    for piece in message.chunks(PIECE_BYTES) {
+        (record, _) = session::piece(record, piece, 8 * piece.len() as u64);
+    }
+    let mut tag = [0; 16];
+    let (_, answer) = session::finish(record, &mut tag);
+    (tag, [answer.number, answer.yes, answer.calls])
+}
+
+pub fn library_slip(slip: &[u8], key: &[u8]) -> [u64; 8] {
+    let s = raw::read(slip, key);
+    [s.number, s.year, s.month, s.day, s.amount, s.calls, s.lot_at, s.lot_len]
+}
+
+pub fn baseline_slip(slip: &[u8], key: &[u8]) -> [u64; 8] {
+    let s = slip::read(slip, key);
+    [s.number, s.year, s.month, s.day, s.amount, s.calls, s.lot_at, s.lot_len]
+}
+
+/// A line of the table from the two ways to do its work.
+fn line<'a, T>(
+    what: &'static str,
+    amount: usize,
+    library: impl FnMut() -> T + 'a,
+    baseline: impl FnMut() -> T + 'a,
+) -> Line<'a> {
+    let ways = vec![Way::new("library", library), Way::new("baseline", baseline)];
+    Line { what, amount: amount as f64, ways }
+}
+
+pub fn make_line<'a>(
+    what: &'static str,
+    (algorithm, padding): (usize, usize),
+    key: &'a [u8],
+    message: &'a [u8],
+) -> Line<'a> {
+    let library = move || library_make(algorithm, padding, key, black_box(message));
+    let baseline = move || baseline_make(algorithm, padding, key, black_box(message));
+    line(what, 1, library, baseline)
+}
+
+pub fn session_line<'a>(what: &'static str, key: &'a [u8], message: &'a [u8]) -> Line<'a> {
+    let library = move || library_session(key, black_box(message));
+    let baseline = move || baseline_session(key, black_box(message));
+    line(what, 1, library, baseline)
+}
+
+pub fn slip_line<'a>(what: &'static str, slip: &'a [u8], key: &'a [u8]) -> Line<'a> {
+    let library = move || {
+        for _ in 0..SLIPS_EACH_TIME {
+            black_box(raw::read(black_box(slip), black_box(key)));
+        }
+    };
+    let baseline = move || {
+        for _ in 0..SLIPS_EACH_TIME {
+            black_box(slip::read(black_box(slip), black_box(key)));
+        }
+    };
+    line(what, SLIPS_EACH_TIME, library, baseline)
+}
