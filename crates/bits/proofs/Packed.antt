@@ -11,7 +11,7 @@ use native.Mathlib.Omega.{arith}
 use lib.Dec.{T, ltb, ltb→lt}
 use lib.Pow.{areBytes}
 use lib.ListN.{length, take, drop, getD, set, length-append, drop-of-length-le}
-use lib.Seq.{take-at, drop-at, take-suc, take-suc-set, drop-cons, take-nil, drop-nil, take-append-add, drop-append-add}
+use lib.Seq.{take-at, drop-at, take-suc-set, drop-cons, take-nil, drop-nil, take-append-add, drop-append-add}
 use Rattle.bits.specs.Str.{Bits, bitsN, bytesBits, words}
 use Rattle.bits.proofs.Numbers.{length-bitsN, bitsN-inj}
 
@@ -126,11 +126,6 @@ pub words-inj : (xs ys : List ℕ) → ((i : ℕ) → getD xs i 0 < 2 ^ 32) → 
     → words xs ≡ words ys → xs ≡ ys
 unfolding words
 words-inj = bitsN-map-inj 32
-
-pub words-suc : (xs : List ℕ) (i : ℕ) → i < length xs → words (take (i + 1) xs) ≡ words (take i xs) ++ (bitsN 32 (getD xs i 0) ∷ [])
-unfolding words
-words-suc xs i h =
-    ap (map (bitsN 32)) (ap (λ (n : ℕ). take n xs) (add-one i) ∙ take-suc xs i 0 h) ∙ map-append (bitsN 32) (take i xs) (getD xs i 0 ∷ [])
 
 pub words-set : (xs : List ℕ) (i v : ℕ) → i < length xs → words (take (i + 1) (set xs i v)) ≡ words (take i xs) ++ (bitsN 32 v ∷ [])
 unfolding words

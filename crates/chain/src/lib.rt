@@ -90,21 +90,25 @@ fn advance(
     x
 }
 
-// Whole blocks after the first, each worked where it lies.
+// Whole blocks after the first, each worked where it lies. The wide table is taken where there are any.
 fn through(t: &sm4::Table, k: [u32; 32], start: [u8; 16], bytes: &[u8], blocks: usize) -> [u8; 16]
     requires { ⌜ (now t ≡ table) × (16 * blocks ≤ length (now bytes)) ⌝ }
     ensures { λ v. ⌜ bytesBits v ≡ chained (enc (words k)) blocks (bytesBits start) (bytesBits (now (bytes .entry))) ⌝ }
 {
-    let mut h = start;
+    if blocks == 0 {
+        return start;
+    }
+    let w = sm4::wide();
+    let mut h = sm4::load(&start);
     let mut rest = bytes;
     let mut left = blocks;
     while 0 < left {
-        let next = sm4::encrypt(t, k, block::xor(block::front(rest), h));
+        let next = sm4::absorb(t, &w, k, h, &rest[..16]);
         h = next;
         rest = &rest[16..];
         left -= 1;
     }
-    h
+    sm4::store(h)
 }
 
 // How many bits wait after so many in all: a full block waits too.

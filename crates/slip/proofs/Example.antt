@@ -8,7 +8,7 @@ use Prim.Native.Nat.{ℕ}
 use Rattle.bits.specs.Choice.{pick, firstOf}
 use Rattle.bits.specs.Str.{bitsN, digit, numOf, bytesBits, words, zeros, xorB, sameB, rotl, leftmost, filled, shiftl, double, halvesFlipped, everySecond}
 use Rattle.block.specs.Block.{front}
-use Rattle.sm4.specs.Table.{sbox, FK, ck, CK, CKs}
+use Rattle.sm4.specs.Constants.{sbox, FK, ck, CK, CKs}
 use Rattle.sm4.specs.Cipher.{quad, flat, four, Sbox, τ, L, L′, T, T′, F, round, rounds, made, R, enc, roundKeys, encrypted}
 use Rattle.mac.specs.Padding.{methodAt, complete, gap, oneGap, prefix, suffix, pad, D}
 use Rattle.mac.specs.Algorithm.{algorithmAt, step, steps}

@@ -7,28 +7,22 @@ use Prim.Native.Nat.{ℕ, _+_, _≤_}
 use native.Mathlib.Omega.{arith}
 use lib.ListN.{length, take, drop, length-append, length-take, length-drop, take-append-drop}
 use lib.Seq.{take-all, drop-drop}
-use Rattle.bits.specs.Str.{Bits, xorB, rotl}
-use Rattle.bits.proofs.Numbers.{length-bitsN}
-use Rattle.bits.proofs.Strings.{length-rotl, xorB-comm, xorB-assoc, xorB-twice, length-xorB}
-use Rattle.sm4.specs.Cipher.{Quad, quad, flat, Sbox, τ, L, T, F, round, rounds, R, enc, dec, roundKeys, encrypted, decrypted}
-use Rattle.sm4.proofs.Laws.{Long, quad-flat, rounds-snoc}
+use Rattle.bits.specs.Str.{Bits, xorB}
+use Rattle.bits.proofs.Strings.{xorB-comm, xorB-assoc, xorB-twice, length-xorB}
+use Rattle.sm4.specs.Cipher.{Quad, quad, flat, τ, T, F, round, rounds, R, enc, dec, roundKeys, encrypted, decrypted}
+use Rattle.sm4.specs.Table.{rotations}
+use Rattle.sm4.proofs.Laws.{Long, length-Sbox, quad-flat, rounds-snoc}
+use Rattle.sm4.proofs.Rotations.{linear}
 
 -- ---- T gives 32 bits
-
-length-Sbox : (b : Bits) → length (Sbox b) ≡ 8
-unfolding Sbox
-length-Sbox b = length-bitsN 8 _
 
 length-τ : (w : Bits) → length (τ w) ≡ 32
 unfolding τ
 length-τ w = simp (length-append, length-Sbox)
 
 length-T : (w : Bits) → length (T w) ≡ 32
-unfolding T L
-length-T w = xored 24 _ (xored 18 _ (xored 10 _ (xored 2 _ (length-τ w))))
-  where
-    xored : (k : ℕ) (v : Bits) → length v ≡ 32 → length (xorB v (rotl k (τ w))) ≡ 32
-    xored k v h = length-xorB v (rotl k (τ w)) (h ∙ sym (length-rotl k (τ w) ∙ length-τ w)) ∙ h
+unfolding T rotations
+length-T w = linear 0 .long (τ w) ∙ length-τ w
 
 -- ---- rounds under any t that gives 32 bits
 
@@ -86,7 +80,7 @@ quad-long b h =
       l3 = omega (arith, length-take 32 (drop 96 b), length-drop 96 b);
     }
 
-flat-quad : (b : Bits) → length b ≡ 128 → flat (quad b) ≡ b
+pub flat-quad : (b : Bits) → length b ≡ 128 → flat (quad b) ≡ b
 unfolding flat quad
 flat-quad b h =
     ap (λ (v : Bits). take 32 b ++ (take 32 (drop 32 b) ++ (take 32 (drop 64 b) ++ v))) (take-all 32 (drop 96 b) last)

@@ -2,21 +2,20 @@
 -- are those words; one round more is one key more at the end.
 -- Assumes nothing.
 use mathlib.Core.Path.{_≡_, refl, sym, ap, ap₂, _∙_, subst}
-use mathlib.Core.List.{List, [], _∷_, _++_, flatMap, append-nil, reverse, reverse-cons}
+use mathlib.Core.List.{List, [], _∷_, _++_, flatMap, reverse, reverse-cons}
 use Prim.Native.Nat.{ℕ, zero, suc, _+_, _-_, _≤_, _<_}
 use native.Mathlib.Nat.{zero-add, add-zero, add-suc, suc-add}
 use native.Mathlib.Numerals.{add-one}
 use native.Mathlib.Omega.{arith}
 use lib.Bits.{bitXor}
 use lib.ListN.{length, take, drop, getD, set, length-map}
-use lib.Seq.{take-at, drop-at, take-suc, take-suc-set, take-all, drop-cons, drop-drop}
+use lib.Seq.{take-at, drop-at, take-suc-set, take-all, drop-cons, drop-drop}
 use Rattle.bits.specs.Str.{Bits, bitsN, bytesBits, words, xorB}
-use Rattle.bits.proofs.Numbers.{length-bitsN, numOf-fit}
+use Rattle.bits.proofs.Numbers.{length-bitsN}
 use Rattle.bits.proofs.Strings.{take-xorB, drop-xorB, bitsN-xor}
 use Rattle.bits.proofs.Packed.{bytesBits-append, words-set, spread, spread-all}
-use Rattle.bits.proofs.Same.{Bytes}
-use Rattle.sm4.specs.Table.{sbox, table, CK, CKs}
-use Rattle.sm4.specs.Cipher.{Quad, quad, flat, four, Sbox, τ, F, round, rounds, made, R}
+use Rattle.sm4.specs.Constants.{CK, CKs}
+use Rattle.sm4.specs.Cipher.{Quad, quad, flat, four, Sbox, τ, F, round, rounds, made}
 
 -- ---- four words of 32 bits, and a block
 
@@ -53,14 +52,14 @@ quad-flat X h = λ i. record { x0 = e0 i; x1 = e1 i; x2 = e2 i; x3 = e3 i }
 
 -- ---- a list's words
 
-words-at : (xs : List ℕ) (i : ℕ) → i < length xs → getD (words xs) i [] ≡ bitsN 32 (getD xs i 0)
+pub words-at : (xs : List ℕ) (i : ℕ) → i < length xs → getD (words xs) i [] ≡ bitsN 32 (getD xs i 0)
 unfolding words
 words-at [] i h = absurd (omega arith)
 words-at (x ∷ xs) zero h = refl
 words-at (x ∷ xs) (suc i) h = words-at xs i (omega arith)
 
 module _ (xs : List ℕ) (h : length xs ≡ 4) where
-  four-words : four (words xs)
+  pub four-words : four (words xs)
       ≡ record { x0 = bitsN 32 (getD xs 0 0); x1 = bitsN 32 (getD xs 1 0); x2 = bitsN 32 (getD xs 2 0); x3 = bitsN 32 (getD xs 3 0) }
   unfolding four
   four-words =
@@ -70,7 +69,7 @@ module _ (xs : List ℕ) (h : length xs ≡ 4) where
       let h3 = words-at xs 3 (omega arith) in
       λ i. record { x0 = h0 i; x1 = h1 i; x2 = h2 i; x3 = h3 i }
 
-  long-words : Long (four (words xs))
+  pub long-words : Long (four (words xs))
   long-words =
       subst Long (sym four-words)
       (record { l0 = length-bitsN 32 _; l1 = length-bitsN 32 _; l2 = length-bitsN 32 _; l3 = length-bitsN 32 _ })
@@ -93,58 +92,29 @@ loaded b x y z w h hx hy hz hw =
     sym (quad-flat X (long-words (x ∷ y ∷ z ∷ w ∷ []) refl)) ∙ ap quad (sym whole ∙ ap bytesBits (spread-all 16 b h))
 
 pub stored : (x a b c d : List ℕ) → length x ≡ 4 → length a ≡ 4 → length b ≡ 4 → length c ≡ 4 → length d ≡ 4
-    → bytesBits a ≡ bitsN 32 (getD x 3 0) → bytesBits b ≡ bitsN 32 (getD x 2 0)
-    → bytesBits c ≡ bitsN 32 (getD x 1 0) → bytesBits d ≡ bitsN 32 (getD x 0 0)
-    → bytesBits (spread 4 0 a ++ (spread 4 0 b ++ (spread 4 0 c ++ spread 4 0 d))) ≡ flat (R (four (words x)))
-unfolding R four
+    → bytesBits a ≡ bitsN 32 (getD x 0 0) → bytesBits b ≡ bitsN 32 (getD x 1 0)
+    → bytesBits c ≡ bitsN 32 (getD x 2 0) → bytesBits d ≡ bitsN 32 (getD x 3 0)
+    → bytesBits (spread 4 0 a ++ (spread 4 0 b ++ (spread 4 0 c ++ spread 4 0 d))) ≡ flat (four (words x))
+unfolding four
 stored x a b c d hx ha hb hc hd ea eb ec ed =
-    packed (spread 4 0 a) (spread 4 0 b) (spread 4 0 c) (spread 4 0 d) (R (four (words x)))
-    (word 3 (omega arith) a ha ea) (word 2 (omega arith) b hb eb) (word 1 (omega arith) c hc ec) (word 0 (omega arith) d hd ed)
+    packed (spread 4 0 a) (spread 4 0 b) (spread 4 0 c) (spread 4 0 d) (four (words x))
+    (word 0 (omega arith) a ha ea) (word 1 (omega arith) b hb eb) (word 2 (omega arith) c hc ec) (word 3 (omega arith) d hd ed)
   where
     word : (i : ℕ) → i < length x → (a : List ℕ) → length a ≡ 4 → bytesBits a ≡ bitsN 32 (getD x i 0)
         → bytesBits (spread 4 0 a) ≡ getD (words x) i []
     word i h a ha e = cc (spread-all 4 a ha, words-at x i h)
 
--- ---- the bytes of a word through the table
+-- ---- the bytes of a word through the byte table
 
-Sbox-byte : (n : ℕ) → n < 256 → Sbox (bitsN 8 n) ≡ bitsN 8 (getD table n 0)
-unfolding Sbox table
-Sbox-byte n h = ap (λ (m : ℕ). bitsN 8 (getD sbox m 0)) (numOf-fit 8 n h)
+pub length-Sbox : (b : Bits) → length (Sbox b) ≡ 8
+unfolding Sbox
+length-Sbox b = length-bitsN 8 _
 
-τ-bytes : (a b c d : ℕ) → τ (bytesBits (a ∷ b ∷ c ∷ d ∷ [])) ≡ Sbox (bitsN 8 a) ++ (Sbox (bitsN 8 b) ++ (Sbox (bitsN 8 c) ++ Sbox (bitsN 8 d)))
+pub τ-bytes : (a b c d : ℕ) → τ (bytesBits (a ∷ b ∷ c ∷ d ∷ [])) ≡ Sbox (bitsN 8 a) ++ (Sbox (bitsN 8 b) ++ (Sbox (bitsN 8 c) ++ Sbox (bitsN 8 d)))
 unfolding τ bytesBits flatMap bitsN
 τ-bytes a b c d = refl
 
-pub byte-below : (b : List ℕ) → Bytes 4 b → (i : ℕ) → getD b i 0 < 256
-byte-below b h i = h .each i .fits
-
-pub substituted : (t b : List ℕ) → t ≡ table → Bytes 4 b
-    → bytesBits (getD t (getD b 0 0) 0 ∷ getD t (getD b 1 0) 0 ∷ getD t (getD b 2 0) 0 ∷ getD t (getD b 3 0) 0 ∷ []) ≡ τ (bytesBits b)
-unfolding bytesBits flatMap spread
-substituted t b e h =
-    cc (
-      append-nil (bitsN 8 (getD table (getD b 3 0) 0)),
-      spread-all 4 b (h .long),
-      τ-bytes (getD b 0 0) (getD b 1 0) (getD b 2 0) (getD b 3 0),
-      Sbox-byte (getD b 0 0) (byte-below b h 0),
-      Sbox-byte (getD b 1 0) (byte-below b h 1),
-      Sbox-byte (getD b 2 0) (byte-below b h 2),
-      Sbox-byte (getD b 3 0) (byte-below b h 3),
-    )
-
--- ---- a round as the code makes it, and one round more
-
-pub rounded : (t : Bits → Bits) (x : List ℕ) (k m : ℕ) → length x ≡ 4
-    → bitsN 32 m ≡ t (bitsN 32 (bitXor (bitXor (bitXor (getD x 1 0) (getD x 2 0)) (getD x 3 0)) k))
-    → four (words (getD x 1 0 ∷ getD x 2 0 ∷ getD x 3 0 ∷ bitXor (getD x 0 0) m ∷ [])) ≡ round t (four (words x)) (bitsN 32 k)
-unfolding round F four words
-rounded t x k m h e =
-    (λ i. record { x0 = bitsN 32 (getD x 1 0); x1 = bitsN 32 (getD x 2 0); x2 = bitsN 32 (getD x 3 0); x3 = last i })
-    ∙ sym (ap (λ (X : Quad). round t X (bitsN 32 k)) (four-words x h))
-  where
-    last : bitsN 32 (bitXor (getD x 0 0) m)
-        ≡ xorB (bitsN 32 (getD x 0 0)) (t (xorB (xorB (xorB (bitsN 32 (getD x 1 0)) (bitsN 32 (getD x 2 0))) (bitsN 32 (getD x 3 0))) (bitsN 32 k)))
-    last = bitsN-xor 32 (getD x 0 0) m ∙ ap (xorB (bitsN 32 (getD x 0 0))) (simp bitsN-xor at e)
+-- ---- one round more
 
 pub rounds-snoc : (t : Bits → Bits) (X : Quad) (ks : List Bits) (k : Bits) → rounds t X (ks ++ (k ∷ [])) ≡ round t (rounds t X ks) k
 unfolding rounds
@@ -157,13 +127,13 @@ made-snoc t X [] k = refl
 made-snoc t X (j ∷ ks) k = ap (λ (l : List Bits). F t X j ∷ l) (made-snoc t (round t X j) ks k)
 
 -- what the code writes is the last word of the new state
-pub made-more : (t : Bits → Bits) (X : Quad) (ks : List Bits) (k : Bits) (y r : List ℕ) (i : ℕ) → length y ≡ 4 → i < length r
-    → four (words y) ≡ round t (rounds t X ks) k → words (take i r) ≡ made t X ks
-    → words (take (i + 1) (set r i (getD y 3 0))) ≡ made t X (ks ++ (k ∷ []))
-unfolding four round
-made-more t X ks k y r i hy hr new before =
-    words-set r i (getD y 3 0) hr
-    ∙ ap₂ (λ (ws : List Bits) (w : Bits). ws ++ (w ∷ [])) before (sym (words-at y 3 (omega arith)) ∙ ap (λ (Y : Quad). Y .x3) new)
+pub made-more : (t : Bits → Bits) (X Y : Quad) (ks : List Bits) (k : Bits) (w : ℕ) (r : List ℕ) (i : ℕ) → i < length r
+    → bitsN 32 w ≡ Y .x3 → Y ≡ round t (rounds t X ks) k → words (take i r) ≡ made t X ks
+    → words (take (i + 1) (set r i w)) ≡ made t X (ks ++ (k ∷ []))
+unfolding round
+made-more t X Y ks k w r i h newest new before =
+    words-set r i w h
+    ∙ ap₂ (λ (ws : List Bits) (v : Bits). ws ++ (v ∷ [])) before (newest ∙ ap (λ (Y : Quad). Y .x3) new)
     ∙ sym (made-snoc t X ks k)
 
 -- ---- the constants of the key expansion
@@ -179,20 +149,15 @@ unfolding CKs
 length-CKs = refl
 
 module _ (i : ℕ) (below : i < 32) where
-  ith : getD (CKs 32 0) i [] ≡ CK i
-  ith = CKs-at 32 0 i below ∙ ap CK (zero-add i)
-
-  pub CKs-suc : take (i + 1) (CKs 32 0) ≡ take i (CKs 32 0) ++ (CK i ∷ [])
-  CKs-suc =
-      ap (λ (n : ℕ). take n (CKs 32 0)) (add-one i) ∙ take-suc (CKs 32 0) i [] (omega (arith, length-CKs))
-      ∙ ap (λ (w : Bits). take i (CKs 32 0) ++ (w ∷ [])) ith
+  pub CKs-ith : getD (CKs 32 0) i [] ≡ CK i
+  CKs-ith = CKs-at 32 0 i below ∙ ap CK (zero-add i)
 
   -- a table that follows the rule has the ith
   pub constant-at : (c : List ℕ) → words c ≡ CKs 32 0 → bitsN 32 (getD c i 0) ≡ CK i
   unfolding words
   constant-at c e =
       sym (words-at c i (omega (arith, length-map c (bitsN 32), ap length e, length-CKs)))
-      ∙ ap (λ (ws : List Bits). getD ws i []) e ∙ ith
+      ∙ ap (λ (ws : List Bits). getD ws i []) e ∙ CKs-ith
 
 -- ---- the words that the key expansion starts from
 

@@ -1,4 +1,8 @@
 pub mod Laws
+pub mod Rotations
+pub mod Lookup
+pub mod Parts
+pub mod Walk
 pub mod Inverse
 pub mod Example
 pub mod Unique

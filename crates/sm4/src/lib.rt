@@ -1,32 +1,21 @@
-// SM4, the block cipher of GB/T 32907-2016. The byte table is lent through every call, so that no hot function copies it:
-// a caller takes `let t = sm4::table();` once.
+// SM4, the block cipher of GB/T 32907-2016. Byte table and rotations are joined in tables of words: a round looks up what each of
+// the four bytes adds. A table is lent through every call, so that no hot function copies it: a caller takes `let t = sm4::table();`
+// once. Long messages take a wide table besides, which spares them the turning of what is looked up; there it is worth its copying.
 ghost use mathlib.Core.Path.{_≡_};
 ghost use mathlib.Core.List.{reverse};
 ghost use Prim.Native.Nat.{_<_};
-ghost use Rattle.bits.specs.Str.{bitsN, bytesBits, words, xorB};
-ghost use Rattle.sm4.specs.Table.{table, FK, CK, CKs};
-ghost use Rattle.sm4.specs.Cipher.{quad, flat, four, τ, T, T′, round, rounds, R, enc, dec, roundKeys};
+ghost use lib.ListN.{length};
+ghost use Rattle.bits.specs.Str.{Bits, bitsN, bytesBits, words, xorB};
+ghost use Rattle.sm4.specs.Constants.{FK, CK, CKs};
+ghost use Rattle.sm4.specs.Cipher.{quad, flat, four, Sbox, L, T, rounds, R, enc, dec, roundKeys};
+ghost use Rattle.sm4.specs.Table.{rotations, mixing, placed, table, wide};
+ghost use Rattle.sm4.specs.Split.{joined, Ready, Stepped};
 
-pub type Table = [u8; 256];
+mod words;
 
-const SBOX: Table = *b"\
-    \xd6\x90\xe9\xfe\xcc\xe1\x3d\xb7\x16\xb6\x14\xc2\x28\xfb\x2c\x05\
-    \x2b\x67\x9a\x76\x2a\xbe\x04\xc3\xaa\x44\x13\x26\x49\x86\x06\x99\
-    \x9c\x42\x50\xf4\x91\xef\x98\x7a\x33\x54\x0b\x43\xed\xcf\xac\x62\
-    \xe4\xb3\x1c\xa9\xc9\x08\xe8\x95\x80\xdf\x94\xfa\x75\x8f\x3f\xa6\
-    \x47\x07\xa7\xfc\xf3\x73\x17\xba\x83\x59\x3c\x19\xe6\x85\x4f\xa8\
-    \x68\x6b\x81\xb2\x71\x64\xda\x8b\xf8\xeb\x0f\x4b\x70\x56\x9d\x35\
-    \x1e\x24\x0e\x5e\x63\x58\xd1\xa2\x25\x22\x7c\x3b\x01\x21\x78\x87\
-    \xd4\x00\x46\x57\x9f\xd3\x27\x52\x4c\x36\x02\xe7\xa0\xc4\xc8\x9e\
-    \xea\xbf\x8a\xd2\x40\xc7\x38\xb5\xa3\xf7\xf2\xce\xf9\x61\x15\xa1\
-    \xe0\xae\x5d\xa4\x9b\x34\x1a\x55\xad\x93\x32\x30\xf5\x8c\xb1\xe3\
-    \x1d\xf6\xe2\x2e\x82\x66\xca\x60\xc0\x29\x23\xab\x0d\x53\x4e\x6f\
-    \xd5\xdb\x37\x45\xde\xfd\x8e\x2f\x03\xff\x6a\x72\x6d\x6c\x5b\x51\
-    \x8d\x1b\xaf\x92\xbb\xdd\xbc\x7f\x11\xd9\x5c\x41\x1f\x10\x5a\xd8\
-    \x0a\xc1\x31\x88\xa5\xcd\x7b\xbd\x2d\x74\xd0\x12\xb8\xe5\xb4\xb0\
-    \x89\x69\x97\x4a\x0c\x96\x77\x7e\x65\xb9\xf1\x09\xc5\x6e\xc6\x84\
-    \x18\xf0\x7d\xec\x3a\xdc\x4d\x20\x79\xee\x5f\x3e\xd7\xcb\x39\x48\
-    ";
+pub type Table = [u32; 512];
+
+pub type Wide = [u32; 768];
 
 const FK: [u32; 4] = [0xa3b1bac6, 0x56aa3350, 0x677d9197, 0xb27022dc];
 
@@ -65,79 +54,131 @@ const CK: [u32; 32] = [
     0x646b7279,
 ];
 
-// The byte table, to be lent.
+// ---- tables
+
+// The table, to be lent.
 pub fn table() -> Table
     ensures { λ r. ⌜ r ≡ table ⌝ }
 {
-    SBOX
+    words::TABLE
 }
 
-// Each byte of a word through the table.
-fn sub_bytes(t: &Table, x: u32) -> u32
-    requires { ⌜ now t ≡ table ⌝ }
-    ensures { λ r. ⌜ bitsN 32 r ≡ τ (bitsN 32 x) ⌝ }
+// The table that long messages take besides, to be lent.
+pub fn wide() -> Wide
+    ensures { λ r. ⌜ r ≡ wide ⌝ }
 {
-    let b = bits::bytes(x);
-    bits::word(
-        t[b[0] as usize],
-        t[b[1] as usize],
-        t[b[2] as usize],
-        t[b[3] as usize],
-    )
+    words::WIDE
 }
 
-fn mix_data(t: &Table, x: u32) -> u32
-    requires { ⌜ now t ≡ table ⌝ }
-    ensures { λ r. ⌜ bitsN 32 r ≡ T (bitsN 32 x) ⌝ }
+// What a byte in place j of a word, the highest counted as 0, adds to T (l is 0) or T′ (l is 1) of the word: what it adds in the
+// first place, turned.
+fn added(t: &Table, l: usize, j: u32, x: u8) -> u32
+    requires { ⌜ (now t ≡ table) × (l < 2) × (j < 4) ⌝ }
+    ensures { λ r. ⌜ bitsN 32 r ≡ rotations l (placed j (Sbox (bitsN 8 x))) ⌝ }
 {
-    let b = sub_bytes(t, x);
-    b ^ bits::rotl32(b, 2) ^ bits::rotl32(b, 10) ^ bits::rotl32(b, 18) ^ bits::rotl32(b, 24)
+    bits::rotl32(t[256 * l + x as usize], 32 - 8 * j)
 }
 
-fn mix_key(t: &Table, x: u32) -> u32
-    requires { ⌜ now t ≡ table ⌝ }
-    ensures { λ r. ⌜ bitsN 32 r ≡ T′ (bitsN 32 x) ⌝ }
+// The same for T, in the second place or later, with nothing to turn.
+fn wide_added(w: &Wide, j: usize, x: u8) -> u32
+    requires { ⌜ (now w ≡ wide) × (0 < j) × (j < 4) ⌝ }
+    ensures { λ r. ⌜ bitsN 32 r ≡ L (placed j (Sbox (bitsN 8 x))) ⌝ }
 {
-    let b = sub_bytes(t, x);
-    b ^ bits::rotl32(b, 13) ^ bits::rotl32(b, 23)
+    w[256 * (j - 1) + x as usize]
 }
 
-fn round_data(t: &Table, x: [u32; 4], rk: u32) -> [u32; 4]
-    requires { ⌜ now t ≡ table ⌝ }
-    ensures { λ r. ⌜ four (words r) ≡ round T (four (words x)) (bitsN 32 rk) ⌝ }
+// ---- the state between two rounds
+
+// The newest of the four words is m ^ n, and q is what the next round mixes with it. So kept, a round waits for no more than one
+// look-up and three xors. That also hangs on how the steps are written: with (s.n ^ s.q) ^ s.m in a function of its own, the
+// compiler joins m ^ n first, and a round waits for one xor more.
+struct Split {
+    x0: u32,
+    x1: u32,
+    x2: u32,
+    m: u32,
+    n: u32,
+    q: u32,
+}
+
+// Four words as a state; k is the key of the first round.
+fn parted(x: [u32; 4], k: u32) -> Split
+    ensures { λ r. ⌜ (joined r ≡ four (words x)) × Ready r (bitsN 32 k) ⌝ }
 {
-    let y = x[0] ^ mix_data(t, x[1] ^ x[2] ^ x[3] ^ rk);
-    [x[1], x[2], x[3], y]
+    Split {
+        x0: x[0],
+        x1: x[1],
+        x2: x[2],
+        m: x[3],
+        n: 0,
+        q: x[1] ^ x[2] ^ k,
+    }
 }
 
-fn round_key(t: &Table, x: [u32; 4], ck: u32) -> [u32; 4]
-    requires { ⌜ now t ≡ table ⌝ }
-    ensures { λ r. ⌜ four (words r) ≡ round T′ (four (words x)) (bitsN 32 ck) ⌝ }
+// One round more, of the cipher (l is 0) or of the key schedule (l is 1); k is the key of the round after it.
+fn step(t: &Table, l: usize, s: Split, k: u32) -> Split
+    requires { ⌜ (now t ≡ table) × (l < 2) ⌝ }
+    ensures { λ r. ⌜ Stepped (mixing l) s r (bitsN 32 k) ⌝ }
 {
-    let y = x[0] ^ mix_key(t, x[1] ^ x[2] ^ x[3] ^ ck);
-    [x[1], x[2], x[3], y]
+    let x3 = s.m ^ s.n;
+    let b = bits::bytes((s.n ^ s.q) ^ s.m);
+    Split {
+        x0: s.x1,
+        x1: s.x2,
+        x2: x3,
+        m: s.x0 ^ added(t, l, 0, b[0]) ^ added(t, l, 1, b[1]),
+        n: added(t, l, 2, b[2]) ^ added(t, l, 3, b[3]),
+        q: s.x2 ^ x3 ^ k,
+    }
 }
 
-// Sixteen bytes as four words, the first byte highest.
-fn load(b: [u8; 16]) -> [u32; 4]
-    ensures { λ r. ⌜ four (words r) ≡ quad (bytesBits b) ⌝ }
+// One round of the cipher more, by both tables.
+fn wide_step(t: &Table, w: &Wide, s: Split, k: u32) -> Split
+    requires { ⌜ (now t ≡ table) × (now w ≡ wide) ⌝ }
+    ensures { λ r. ⌜ Stepped T s r (bitsN 32 k) ⌝ }
+{
+    let x3 = s.m ^ s.n;
+    let b = bits::bytes((s.n ^ s.q) ^ s.m);
+    Split {
+        x0: s.x1,
+        x1: s.x2,
+        x2: x3,
+        m: s.x0 ^ added(t, 0, 0, b[0]) ^ wide_added(w, 1, b[1]),
+        n: wide_added(w, 2, b[2]) ^ wide_added(w, 3, b[3]),
+        q: s.x2 ^ x3 ^ k,
+    }
+}
+
+// The four words of a state, the newest first.
+fn reversed(s: Split) -> [u32; 4]
+    ensures { λ r. ⌜ four (words r) ≡ R (joined s) ⌝ }
+{
+    [s.m ^ s.n, s.x2, s.x1, s.x0]
+}
+
+// ---- blocks
+
+// The sixteen bytes of a part as four words, the first byte highest.
+pub fn load(s: &[u8]) -> [u32; 4]
+    requires { ⌜ length (now s) ≡ 16 ⌝ }
+    ensures { λ r. ⌜ four (words r) ≡ quad (bytesBits (now (s .entry))) ⌝ }
 {
     [
-        bits::word(b[0], b[1], b[2], b[3]),
-        bits::word(b[4], b[5], b[6], b[7]),
-        bits::word(b[8], b[9], b[10], b[11]),
-        bits::word(b[12], b[13], b[14], b[15]),
+        bits::word(s[0], s[1], s[2], s[3]),
+        bits::word(s[4], s[5], s[6], s[7]),
+        bits::word(s[8], s[9], s[10], s[11]),
+        bits::word(s[12], s[13], s[14], s[15]),
     ]
 }
 
-// Four words as sixteen bytes, the last word first.
-fn store_reversed(x: [u32; 4]) -> [u8; 16]
-    ensures { λ r. ⌜ bytesBits r ≡ flat (R (four (words x))) ⌝ }
+// Four words as sixteen bytes.
+pub fn store(x: [u32; 4]) -> [u8; 16]
+    ensures { λ r. ⌜ bytesBits r ≡ flat (four (words x)) ⌝ }
 {
-    let a = bits::bytes(x[3]);
-    let b = bits::bytes(x[2]);
-    let c = bits::bytes(x[1]);
-    let d = bits::bytes(x[0]);
+    let a = bits::bytes(x[0]);
+    let b = bits::bytes(x[1]);
+    let c = bits::bytes(x[2]);
+    let d = bits::bytes(x[3]);
     [
         a[0],
         a[1],
@@ -158,18 +199,41 @@ fn store_reversed(x: [u32; 4]) -> [u8; 16]
     ]
 }
 
+// Four words by xor with four others: of a block in words and a second one.
+fn xor(x: [u32; 4], y: [u32; 4]) -> [u32; 4]
+    ensures { λ r. ⌜ ((b : Bits) → four (words x) ≡ quad b → four (words r) ≡ quad (xorB b (flat (four (words y))))) ⌝ }
+{
+    [x[0] ^ y[0], x[1] ^ y[1], x[2] ^ y[2], x[3] ^ y[3]]
+}
+
+// All rounds; the last word comes first. After the last round the state is ready for the first key again, which nothing uses.
 fn rounds(t: &Table, rk: [u32; 32], start: [u32; 4]) -> [u32; 4]
     requires { ⌜ now t ≡ table ⌝ }
-    ensures { λ r. ⌜ four (words r) ≡ rounds T (four (words start)) (words rk) ⌝ }
+    ensures { λ r. ⌜ four (words r) ≡ R (rounds T (four (words start)) (words rk)) ⌝ }
 {
-    let mut x = start;
+    let mut s = parted(start, rk[0]);
     let mut i: usize = 0;
     while i < 32 {
-        let y = round_data(t, x, rk[i]);
-        x = y;
+        let next = step(t, 0, s, rk[(i + 1) % 32]);
+        s = next;
         i += 1;
     }
-    x
+    reversed(s)
+}
+
+// The same by both tables.
+fn wide_rounds(t: &Table, w: &Wide, rk: [u32; 32], start: [u32; 4]) -> [u32; 4]
+    requires { ⌜ (now t ≡ table) × (now w ≡ wide) ⌝ }
+    ensures { λ r. ⌜ four (words r) ≡ R (rounds T (four (words start)) (words rk)) ⌝ }
+{
+    let mut s = parted(start, rk[0]);
+    let mut i: usize = 0;
+    while i < 32 {
+        let next = wide_step(t, w, s, rk[(i + 1) % 32]);
+        s = next;
+        i += 1;
+    }
+    reversed(s)
 }
 
 // One block enciphered.
@@ -177,7 +241,16 @@ pub fn encrypt(t: &Table, rk: [u32; 32], block: [u8; 16]) -> [u8; 16]
     requires { ⌜ now t ≡ table ⌝ }
     ensures { λ r. ⌜ bytesBits r ≡ enc (words rk) (bytesBits block) ⌝ }
 {
-    store_reversed(rounds(t, rk, load(block)))
+    store(rounds(t, rk, load(&block)))
+}
+
+// The next value of a chain: a block, which is a part of a lent message, goes into the words of the value by xor and is enciphered.
+// Between the blocks of a long message nothing is put back into bytes.
+pub fn absorb(t: &Table, w: &Wide, rk: [u32; 32], h: [u32; 4], s: &[u8]) -> [u32; 4]
+    requires { ⌜ (now t ≡ table) × (now w ≡ wide) × (length (now s) ≡ 16) ⌝ }
+    ensures { λ r. ⌜ flat (four (words r)) ≡ enc (words rk) (xorB (bytesBits (now (s .entry))) (flat (four (words h)))) ⌝ }
+{
+    wide_rounds(t, w, rk, xor(load(s), h))
 }
 
 fn backwards(rk: [u32; 32]) -> [u32; 32]
@@ -200,6 +273,8 @@ pub fn decrypt(t: &Table, rk: [u32; 32], block: [u8; 16]) -> [u8; 16]
     encrypt(t, backwards(rk), block)
 }
 
+// ---- keys
+
 // The constant of round i, out of a lent table that follows the rule.
 fn constant(c: &[u32; 32], i: usize) -> u32
     requires { ⌜ (words (now c) ≡ CKs 32 0) × (i < 32) ⌝ }
@@ -212,8 +287,7 @@ fn constant(c: &[u32; 32], i: usize) -> u32
 fn key_start(key: [u8; 16]) -> [u32; 4]
     ensures { λ r. ⌜ four (words r) ≡ quad (xorB (bytesBits key) (flat (four (words FK)))) ⌝ }
 {
-    let x = load(key);
-    [x[0] ^ FK[0], x[1] ^ FK[1], x[2] ^ FK[2], x[3] ^ FK[3]]
+    xor(load(&key), FK)
 }
 
 // The round keys of a key.
@@ -222,13 +296,13 @@ pub fn schedule(t: &Table, key: [u8; 16]) -> [u32; 32]
     ensures { λ r. ⌜ words r ≡ roundKeys (bytesBits key) ⌝ }
 {
     let c = CK;
-    let mut x = key_start(key);
+    let mut s = parted(key_start(key), constant(&c, 0));
     let mut r = [0u32; 32];
     let mut i: usize = 0;
     while i < 32 {
-        let y = round_key(t, x, constant(&c, i));
-        x = y;
-        r[i] = x[3];
+        let next = step(t, 1, s, constant(&c, (i + 1) % 32));
+        s = next;
+        r[i] = s.m ^ s.n;
         i += 1;
     }
     r

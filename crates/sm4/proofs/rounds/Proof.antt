@@ -1,37 +1,45 @@
--- `rounds` meets its contract. The loop's invariant: the state is that after the rounds under the keys passed. The measure is
--- the number of rounds left.
+-- `rounds` meets its contract. The loop's invariant is the walk so far (Walk.antt), the measure is the number of rounds left.
 -- Assumes nothing.
-use mathlib.Core.Path.{_≡_, refl}
-use Prim.Native.Nat.{_≤_, _-_}
-use native.Mathlib.Omega.{arith}
-use lib.ListN.{length, take, getD}
-use lib.Seq.{take-all}
+use mathlib.Core.Path.{_≡_, ap, _∙_}
+use Prim.Native.Nat.{_+_, _-_}
+use lib.ListN.{length}
 use borrow.Author.Needs.{needs}
-use Rattle.bits.specs.Str.{bitsN, words}
-use Rattle.bits.proofs.Packed.{words-suc}
-use Rattle.sm4.specs.Cipher.{four, rounds, T}
-use Rattle.sm4.proofs.Laws.{rounds-snoc}
+use Rattle.bits.specs.Str.{words}
+use Rattle.sm4.specs.Cipher.{rounds, R, T}
+use Rattle.sm4.specs.Table.{mixing}
+use Rattle.sm4.proofs.Walk.{Walked, length-keys, key-at, walk-start, walk-on, walk-end}
 use Rattle.sm4.proofs.rounds.Statement.{statement}
 use Rattle.sm4.proofs.rounds.Tie as tie
 
 abbrev Inv-loop : tie.InvT-loop
-Inv-loop t rk x₀ i₀ x i = (i ≤ 32) × (four (words x) ≡ rounds T (four (words x₀)) (words (take i rk)))
+Inv-loop t rk s₀ i₀ s i = Walked T (words rk) s₀ s i
 
 abbrev μ-loop : tie.MeasureT-loop
-μ-loop t rk x₀ i₀ x i = 32 - i
+μ-loop t rk s₀ i₀ s i = 32 - i
+
+array-read-parted : tie.Need-array-read-parted Inv-loop μ-loop
+array-read-parted c = search needs
+
+parted-requires : tie.Need-parted-requires Inv-loop μ-loop
+parted-requires c κs = search needs
 
 loop-holds : tie.Need-loop-holds Inv-loop μ-loop
-unfolding rounds words
-loop-holds c = (search needs, refl)
+loop-holds c =
+    let rk = c .before .args .t2 in
+    let all : length rk ≡ 32 = search needs in
+    walk-start T (words rk) (length-keys rk all) (c .parted .result) _ (key-at rk all 0) (c .parted .ensures .1)
 
-mul-round-data : tie.Need-mul-round-data Inv-loop μ-loop
-mul-round-data c = search needs
+add-step : tie.Need-add-step Inv-loop μ-loop
+add-step c = search needs
 
-array-read-round-data : tie.Need-array-read-round-data Inv-loop μ-loop
-array-read-round-data c = search needs
+mul-step : tie.Need-mul-step Inv-loop μ-loop
+mul-step c = search needs
 
-round-data-requires : tie.Need-round-data-requires Inv-loop μ-loop
-round-data-requires c κs = search needs
+array-read-step : tie.Need-array-read-step Inv-loop μ-loop
+array-read-step c = search needs
+
+step-requires : tie.Need-step-requires Inv-loop μ-loop
+step-requires c κs = search needs
 
 add-i : tie.Need-add-i Inv-loop μ-loop
 add-i c = search needs
@@ -40,17 +48,25 @@ loop-less : tie.Need-loop-less Inv-loop μ-loop
 loop-less c = search needs
 
 loop-again : tie.Need-loop-again Inv-loop μ-loop
+unfolding mixing
 loop-again c =
-    let i = c .before .before .loop .i in
-    let X = four (words (c .before .before .before .args .start)) in
-    let rk = c .before .before .before .args .t2 in
-    (search needs, cc (words-suc rk i (search needs), rounds-snoc T X (words (take i rk)) (bitsN 32 (getD rk i 0))))
+    let at = c .before .before in
+    let l = at .loop in
+    let rk = at .before .before .args .t2 in
+    let all : length rk ≡ 32 = search needs in
+    walk-on T (words rk) (length-keys rk all) _ (l .s) (c .step .result) (l .i) (l .inv) (search needs) _ (key-at rk all (l .i + 1)) (c .step .ensures)
+
+reversed-requires : tie.Need-reversed-requires Inv-loop μ-loop
+reversed-requires c κs = search needs
 
 returns : tie.Need-returns Inv-loop μ-loop
 returns c =
-    let rk = c .before .before .args .t2 in
+    let at = c .before .before in
+    let l = at .loop in
+    let rk = at .before .before .args .t2 in
     let all : length rk ≡ 32 = search needs in
-    cc (take-all (c .before .loop .i) rk (omega arith))
+    c .reversed .ensures
+    ∙ ap R (walk-end T (words rk) (length-keys rk all) _ (l .s) (l .i) (l .inv) (search needs) ∙ ap (λ X. rounds T X (words rk)) (at .before .parted .ensures .0))
 
 pub rounds-spec : {M : Type 1} → statement M
 rounds-spec =
@@ -58,11 +74,15 @@ rounds-spec =
     (tie.spec
     Inv-loop
     μ-loop
+    array-read-parted
+    parted-requires
     loop-holds
-    mul-round-data
-    array-read-round-data
-    round-data-requires
+    add-step
+    mul-step
+    array-read-step
+    step-requires
     add-i
     loop-less
     loop-again
+    reversed-requires
     returns)

@@ -1,0 +1,86 @@
+-- `wide_rounds` meets its contract, as `rounds` does.
+-- Assumes nothing.
+use mathlib.Core.Path.{_≡_, ap, _∙_}
+use Prim.Native.Nat.{_+_, _-_}
+use lib.ListN.{length}
+use borrow.Author.Needs.{needs}
+use Rattle.bits.specs.Str.{words}
+use Rattle.sm4.specs.Cipher.{rounds, R, T}
+use Rattle.sm4.proofs.Walk.{Walked, length-keys, key-at, walk-start, walk-on, walk-end}
+use Rattle.sm4.proofs.wide_rounds.Statement.{statement}
+use Rattle.sm4.proofs.wide_rounds.Tie as tie
+
+abbrev Inv-loop : tie.InvT-loop
+Inv-loop t w rk s₀ i₀ s i = Walked T (words rk) s₀ s i
+
+abbrev μ-loop : tie.MeasureT-loop
+μ-loop t w rk s₀ i₀ s i = 32 - i
+
+array-read-parted : tie.Need-array-read-parted Inv-loop μ-loop
+array-read-parted c = search needs
+
+parted-requires : tie.Need-parted-requires Inv-loop μ-loop
+parted-requires c κs = search needs
+
+loop-holds : tie.Need-loop-holds Inv-loop μ-loop
+loop-holds c =
+    let rk = c .before .args .t3 in
+    let all : length rk ≡ 32 = search needs in
+    walk-start T (words rk) (length-keys rk all) (c .parted .result) _ (key-at rk all 0) (c .parted .ensures .1)
+
+add-wide-step : tie.Need-add-wide-step Inv-loop μ-loop
+add-wide-step c = search needs
+
+mul-wide-step : tie.Need-mul-wide-step Inv-loop μ-loop
+mul-wide-step c = search needs
+
+array-read-wide-step : tie.Need-array-read-wide-step Inv-loop μ-loop
+array-read-wide-step c = search needs
+
+wide-step-requires : tie.Need-wide-step-requires Inv-loop μ-loop
+wide-step-requires c κs = search needs
+
+add-i : tie.Need-add-i Inv-loop μ-loop
+add-i c = search needs
+
+loop-less : tie.Need-loop-less Inv-loop μ-loop
+loop-less c = search needs
+
+loop-again : tie.Need-loop-again Inv-loop μ-loop
+loop-again c =
+    let at = c .before .before in
+    let l = at .loop in
+    let rk = at .before .before .args .t3 in
+    let all : length rk ≡ 32 = search needs in
+    walk-on T (words rk) (length-keys rk all) _ (l .s) (c .wide-step .result) (l .i) (l .inv) (search needs) _ (key-at rk all (l .i + 1)) (c .wide-step .ensures)
+
+reversed-requires : tie.Need-reversed-requires Inv-loop μ-loop
+reversed-requires c κs = search needs
+
+returns : tie.Need-returns Inv-loop μ-loop
+returns c =
+    let at = c .before .before in
+    let l = at .loop in
+    let rk = at .before .before .args .t3 in
+    let all : length rk ≡ 32 = search needs in
+    c .reversed .ensures
+    ∙ ap R (walk-end T (words rk) (length-keys rk all) _ (l .s) (l .i) (l .inv) (search needs) ∙ ap (λ X. rounds T X (words rk)) (at .before .parted .ensures .0))
+
+pub wide-rounds-spec : {M : Type 1} → statement M
+wide-rounds-spec =
+    tie.close
+    (tie.spec
+    Inv-loop
+    μ-loop
+    array-read-parted
+    parted-requires
+    loop-holds
+    add-wide-step
+    mul-wide-step
+    array-read-wide-step
+    wide-step-requires
+    add-i
+    loop-less
+    loop-again
+    reversed-requires
+    returns)
