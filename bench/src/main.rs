@@ -1,17 +1,18 @@
-//! bench [ROUNDS]: the library beside the plain reference of tests/reference, on the same work in one run. Both are asked first and
-//! must agree, or nothing is measured; README.md tells how to read the table.
+//! bench [ROUNDS]: the library beside the plain reference of tests/reference and beside its peers, on the same work in one run. All
+//! are asked first and must agree, or nothing is measured; README.md tells how to read the table.
 
 mod measure;
 mod openssl;
+mod peer;
 mod report;
+mod shared;
 mod work;
 
-use measure::Way;
-use openssl::OpenSsl;
+use peer::Peer;
 use reference::{hex, unhex};
 use std::fmt::Debug;
-use std::hint::black_box;
 use std::process::exit;
+use work::Tagged;
 
 const ROUNDS: usize = 9;
 const KEY: &str = "0123456789ABCDEFFEDCBA9876543210";
@@ -23,6 +24,22 @@ fn agree<T: PartialEq + Debug>(what: &str, answer: T, expected: T) {
         eprintln!("{what}: the answer is {answer:02X?}, expected is {expected:02X?}. Nothing was measured.");
         exit(1);
     }
+}
+
+/// The tag on which library, baseline and peers agree. Peers go with algorithm 5 only.
+fn agree_on_make(
+    what: &str,
+    (algorithm, padding): (usize, usize),
+    key: &[u8],
+    message: &[u8],
+    peers: &[&Peer],
+) -> Tagged {
+    let tagged = work::baseline_make(algorithm, padding, key, message);
+    agree(what, work::library_make(algorithm, padding, key, message), tagged);
+    for peer in peers {
+        agree(&format!("{what}, {}", peer.name), peer.cmac(key, message), Some(tagged.0));
+    }
+    tagged
 }
 
 fn agree_on_slip(what: &str, slip: &[u8], key: &[u8], number: u64) {
@@ -43,40 +60,65 @@ fn main() {
     let mut wrong = slip.to_vec();
     *wrong.last_mut().unwrap() ^= 1;
     let cut = &slip[..slip.len() - 1];
-    let openssl = OpenSsl::find();
+    let short = &message[message.len() - work::SHORT_BYTES..];
+    let (openssl, botan, libgcrypt) = (openssl::find(), peer::built("botan.so"), peer::built("gcrypt.so"));
+    let peers: Vec<&Peer> = [&openssl, &botan, &libgcrypt].into_iter().flatten().collect();
 
-    let tagged = work::baseline_make(1, 1, key, message);
-    agree("make, algorithm 1", work::library_make(1, 1, key, message), tagged);
+    let tagged = agree_on_make("make, algorithm 1", (1, 1), key, message, &[]);
     agree("session", work::library_session(key, message), tagged);
     agree("the baseline's session", work::baseline_session(key, message), tagged);
-    let cmac = work::baseline_make(5, 4, key, message);
-    agree("make, algorithm 5", work::library_make(5, 4, key, message), cmac);
-    if let Some(openssl) = &openssl {
-        agree("OpenSSL's CMAC", openssl.cmac(key, message), Some(cmac.0));
-    }
+    let cmac = agree_on_make("make, algorithm 5", (5, 4), key, message, &peers);
+    agree_on_make("make on 16 bytes, algorithm 1", (1, 1), key, short, &[]);
+    agree_on_make("make on 16 bytes, algorithm 5", (5, 4), key, short, &peers);
     agree_on_slip("slip", slip, key, 0);
     agree_on_slip("slip with a wrong seal", &wrong, key, 30);
     agree_on_slip("slip cut short", cut, key, 20);
     println!("{}; {rounds} rounds of CPU time", report::machine());
     println!("All answers agree; the tags of 1 MiB are {} and {}.", hex(&tagged.0), hex(&cmac.0));
 
-    let mut cmac_line =
-        work::make_line("make on 1 MiB, algorithm 5 (CMAC), MiB a second", (5, 4), key, message);
-    if let Some(openssl) = &openssl {
-        cmac_line.ways.push(Way::new(&openssl.name, || openssl.cmac(key, black_box(message))));
-    }
+    let openssl_only: Vec<&Peer> = openssl.iter().collect();
     let mut lines = [
-        work::make_line("make on 1 MiB, algorithm 1, MiB a second", (1, 1), key, message),
+        work::make_line("make on 1 MiB, algorithm 1, MiB a second", 1, (1, 1), key, message, &[]),
         work::session_line("session of 64 KiB pieces over 1 MiB, algorithm 1, MiB a second", key, message),
-        cmac_line,
+        work::make_line(
+            "make on 1 MiB, algorithm 5 (CMAC), MiB a second",
+            1,
+            (5, 4),
+            key,
+            message,
+            &openssl_only,
+        ),
         work::slip_line("slips accepted a second", slip, key),
         work::slip_line("slips refused a second, one bit of the seal wrong", &wrong, key),
         work::slip_line("slips refused a second, the last byte cut off", cut, key),
+        work::make_line("tags of 16 bytes a second, algorithm 1", work::SHORT_CALLS, (1, 1), key, short, &[]),
+        work::make_line(
+            "tags of 16 bytes a second, algorithm 5 (CMAC), beside every peer",
+            work::SHORT_CALLS,
+            (5, 4),
+            key,
+            short,
+            &peers,
+        ),
+        work::make_line(
+            "tags of 1 MiB, algorithm 5 (CMAC), beside every peer, MiB a second",
+            1,
+            (5, 4),
+            key,
+            message,
+            &peers,
+        ),
     ];
     measure::measure(&mut lines, rounds);
     report::table(&lines);
-    if openssl.is_none() {
-        println!("OpenSSL was not measured: there is no libcrypto.so.3 that makes CMAC over SM4.");
+    for (peer, name, file) in [
+        (&openssl, "OpenSSL", "libcrypto.so.3"),
+        (&botan, "Botan", "target/peers/botan.so"),
+        (&libgcrypt, "libgcrypt", "target/peers/gcrypt.so"),
+    ] {
+        if peer.is_none() {
+            println!("{name} was not measured: there is no {file} that makes CMAC over SM4.");
+        }
     }
     println!("At the end: {}", report::machine());
 }

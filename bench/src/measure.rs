@@ -1,5 +1,5 @@
 //! Measuring by turns: in each round every way of every line works for about a fifth of a second of CPU time, the ways of a
-//! line one right after the other, so that what slows the machine slows both.
+//! line one right after the other, so that what slows the machine slows all of them.
 
 use std::ffi::{c_int, c_long};
 use std::hint::black_box;

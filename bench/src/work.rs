@@ -2,27 +2,29 @@
 //! Answers are turned into plain numbers, so that the two can be compared.
 
 use crate::measure::{Line, Way};
+use crate::peer::Peer;
 use reference::{session, slip};
 use slipseal::raw;
 use std::hint::black_box;
 
 pub const MESSAGE_BYTES: usize = 1 << 20;
-const MESSAGE_BITS: usize = 8 * MESSAGE_BYTES;
+pub const SHORT_BYTES: usize = 16;
 const PIECE_BYTES: usize = 64 << 10;
-const SLIPS_EACH_TIME: usize = 1000;
+/// How often a short piece of work is done each time.
+pub const SHORT_CALLS: usize = 1000;
 
 /// A tag of 128 bits; number, yes and calls.
 pub type Tagged = ([u8; 16], [u64; 3]);
 
 pub fn library_make(algorithm: usize, padding: usize, key: &[u8], message: &[u8]) -> Tagged {
     let mut tag = [0; 16];
-    let answer = raw::make(algorithm, padding, 128, key, message, MESSAGE_BITS, &mut tag);
+    let answer = raw::make(algorithm, padding, 128, key, message, 8 * message.len(), &mut tag);
     (tag, [answer.number, answer.yes, answer.calls])
 }
 
 pub fn baseline_make(algorithm: usize, padding: usize, key: &[u8], message: &[u8]) -> Tagged {
     let mut tag = [0; 16];
-    let (algorithm, padding, bits) = (algorithm as u64, padding as u64, MESSAGE_BITS as u64);
+    let (algorithm, padding, bits) = (algorithm as u64, padding as u64, 8 * message.len() as u64);
     let answer = reference::make(algorithm, padding, 128, key, message, bits, &mut tag);
     (tag, [answer.number, answer.yes, answer.calls])
 }
@@ -68,15 +70,32 @@ fn line<'a, T>(
     Line { what, amount: amount as f64, ways }
 }
 
+/// So many calls each time.
+fn repeated<T>(calls: usize, mut call: impl FnMut() -> T) -> impl FnMut() {
+    move || {
+        for _ in 0..calls {
+            black_box(call());
+        }
+    }
+}
+
+/// Tags of one message, each in one call. Peers go with algorithm 5 only.
 pub fn make_line<'a>(
     what: &'static str,
+    calls: usize,
     (algorithm, padding): (usize, usize),
     key: &'a [u8],
     message: &'a [u8],
+    peers: &[&'a Peer],
 ) -> Line<'a> {
-    let library = move || library_make(algorithm, padding, key, black_box(message));
-    let baseline = move || baseline_make(algorithm, padding, key, black_box(message));
-    line(what, 1, library, baseline)
+    let library = move || library_make(algorithm, padding, black_box(key), black_box(message));
+    let baseline = move || baseline_make(algorithm, padding, black_box(key), black_box(message));
+    let mut line = line(what, calls, repeated(calls, library), repeated(calls, baseline));
+    for &peer in peers {
+        let cmac = move || peer.cmac(black_box(key), black_box(message));
+        line.ways.push(Way::new(&peer.name, repeated(calls, cmac)));
+    }
+    line
 }
 
 pub fn session_line<'a>(what: &'static str, key: &'a [u8], message: &'a [u8]) -> Line<'a> {
@@ -86,15 +105,7 @@ pub fn session_line<'a>(what: &'static str, key: &'a [u8], message: &'a [u8]) ->
 }
 
 pub fn slip_line<'a>(what: &'static str, slip: &'a [u8], key: &'a [u8]) -> Line<'a> {
-    let library = move || {
-        for _ in 0..SLIPS_EACH_TIME {
-            black_box(raw::read(black_box(slip), black_box(key)));
-        }
-    };
-    let baseline = move || {
-        for _ in 0..SLIPS_EACH_TIME {
-            black_box(slip::read(black_box(slip), black_box(key)));
-        }
-    };
-    line(what, SLIPS_EACH_TIME, library, baseline)
+    let library = repeated(SHORT_CALLS, move || raw::read(black_box(slip), black_box(key)));
+    let baseline = repeated(SHORT_CALLS, move || slip::read(black_box(slip), black_box(key)));
+    line(what, SHORT_CALLS, library, baseline)
 }
