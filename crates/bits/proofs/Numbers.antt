@@ -101,7 +101,7 @@ bitsN-numOf (b ∷ w) =
     ap₂ (λ (n : ℕ) (v : Bits). digit (n % 2) ∷ v) (high (cond b 1 0) (length w) (numOf-lt w)) (bitsN-above (length w) (cond b 1 0) (numOf w) ∙ bitsN-numOf w)
     ∙ ap (λ (c : Bool). c ∷ w) (ap digit (mod-eq-of-lt (cond-lt b)) ∙ digit-cond b)
 
-pub numOf-fit : (k x : ℕ) → x < 2 ^ k → numOf (bitsN k x) ≡ x
+numOf-fit : (k x : ℕ) → x < 2 ^ k → numOf (bitsN k x) ≡ x
 numOf-fit k x h = numOf-bitsN k x ∙ mod-eq-of-lt h
 
 pub bitsN-inj : (k x y : ℕ) → x < 2 ^ k → y < 2 ^ k → bitsN k x ≡ bitsN k y → x ≡ y

@@ -2,14 +2,11 @@
 -- every width; bytes are the case of eight bits, words that of 32.
 -- Assumes nothing.
 use mathlib.Core.Path.{_≡_, refl, sym, ap, ap₂, _∙_}
-use mathlib.Core.Bool.{Bool, true, false, _&&_}
 use mathlib.Core.List.{List, [], _∷_, _++_, map, flatMap, append-assoc, append-nil, map-append}
 use Prim.Native.Nat.{ℕ, zero, suc, _+_, _*_, _^_, _<_}
 use native.Mathlib.Nat.{mul-suc, mul-zero}
 use native.Mathlib.Numerals.{add-one}
 use native.Mathlib.Omega.{arith}
-use lib.Dec.{T, ltb, ltb→lt}
-use lib.Pow.{areBytes}
 use lib.ListN.{length, take, drop, getD, set, length-append, drop-of-length-le}
 use lib.Seq.{take-at, drop-at, take-suc-set, drop-cons, take-nil, drop-nil, take-append-add, drop-append-add}
 use Rattle.bits.specs.Str.{Bits, bitsN, bytesBits, words}
@@ -109,16 +106,6 @@ unfolding bytesBits flatMap
 bytesBits-set xs i v h =
     ap bytesBits (ap (λ (n : ℕ). take n (set xs i v)) (add-one i) ∙ take-suc-set xs i v h) ∙ bytesBits-append (take i xs) (v ∷ [])
     ∙ ap (λ (w : Bits). bytesBits (take i xs) ++ w) (append-nil (bitsN 8 v))
-
--- a list that is written out holds bytes: a test that antt computes
-and-both : (a b : Bool) → T (a && b) → T a × T b
-and-both true b t = (tt, t)
-and-both false b t = absurd t
-
-pub bytes-fit : (xs : List ℕ) → T (areBytes xs) → (i : ℕ) → getD xs i 0 < 256
-bytes-fit [] t i = omega arith
-bytes-fit (x ∷ xs) t zero = ltb→lt x 256 (and-both (ltb x 256) (areBytes xs) t .0)
-bytes-fit (x ∷ xs) t (suc i) = bytes-fit xs (and-both (ltb x 256) (areBytes xs) t .1) i
 
 -- ---- words
 

@@ -73,6 +73,13 @@ length-xorB [] v h = refl
 length-xorB (b ∷ u) [] h = absurd (omega arith)
 length-xorB (b ∷ u) (c ∷ v) h = ap suc (length-xorB u v (omega arith))
 
+-- four strings by xor, in another order
+pub xorB-cross : (a b c d : Bits) → xorB (xorB a b) (xorB c d) ≡ xorB (xorB a c) (xorB b d)
+xorB-cross a b c d =
+    xorB-assoc a b (xorB c d)
+    ∙ ap (xorB a) (sym (xorB-assoc b c d) ∙ ap (λ (w : Bits). xorB w d) (xorB-comm b c) ∙ xorB-assoc c b d)
+    ∙ sym (xorB-assoc a c (xorB b d))
+
 -- xor with the same string twice
 pub xorB-twice : (u v : Bits) → length u ≡ length v → xorB (xorB u v) v ≡ u
 unfolding xorB zipWith
@@ -201,6 +208,14 @@ pub length-filled : (n : ℕ) (w : Bits) → length w ≤ n → length (filled n
 unfolding filled
 length-filled n w h = omega (arith, length-append w (zeros (n - length w)), length-zeros (n - length w))
 
+-- two strings, each filled with zeros where the other stands
+pub xorB-beside : (x y : Bits) (m n : ℕ) → length x ≡ m → length y ≡ n → xorB (x ++ zeros n) (zeros m ++ y) ≡ x ++ y
+xorB-beside x y m n hx hy =
+    xorB-append x (zeros n) (zeros m) y (hx ∙ sym (length-zeros m))
+    ∙ ap₂ (λ (u v : Bits). u ++ v)
+    (ap (λ (k : ℕ). xorB x (zeros k)) (sym hx) ∙ xorB-zeros x)
+    (xorB-comm (zeros n) y ∙ ap (λ (k : ℕ). xorB y (zeros k)) (sym hy) ∙ xorB-zeros y)
+
 -- ---- doubling
 
 pub length-shiftl : (w : Bits) → 0 < length w → length (shiftl w) ≡ length w
@@ -224,6 +239,12 @@ length-rotl k w = omega (arith, length-append (drop k w) (take k w), length-drop
 pub length-rotr : (k : ℕ) (w : Bits) → length (rotr k w) ≡ length w
 unfolding rotr rotl
 length-rotr k w = length-rotl (length w - k) w
+
+pub rotl-xorB : (k : ℕ) (u v : Bits) → length u ≡ length v → rotl k (xorB u v) ≡ xorB (rotl k u) (rotl k v)
+unfolding rotl
+rotl-xorB k u v h =
+    ap₂ (λ (x y : Bits). x ++ y) (drop-xorB k u v) (take-xorB k u v)
+    ∙ sym (xorB-append (drop k u) (take k u) (drop k v) (take k v) (omega (arith, length-drop k u, length-drop k v)))
 
 pub rotl-zero : (w : Bits) → rotl 0 w ≡ w
 unfolding rotl

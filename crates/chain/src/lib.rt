@@ -1,6 +1,6 @@
 // The heart of every tag, shared by one call and sessions: a chain is begun, fed lent slices of bits, and closed. Round keys and
-// the cipher's table are passed through it, so that nothing is computed twice within a call; blocks are worked where they lie in
-// the lent slice, and only the block that waits is copied.
+// the cipher's table are passed through it, so that nothing is computed twice within a call; the wide table is taken by `through`
+// alone. Blocks are worked where they lie in the lent slice, and only the block that waits is copied.
 ghost use mathlib.Core.Path.{_≡_};
 ghost use mathlib.Core.Bool.{_&&_, not};
 ghost use Prim.Native.Nat.{_+_, _*_, _%_, _≤_, _<_};

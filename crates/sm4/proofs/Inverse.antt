@@ -7,9 +7,10 @@ use Prim.Native.Nat.{ℕ, _+_, _≤_}
 use native.Mathlib.Omega.{arith}
 use lib.ListN.{length, take, drop, length-append, length-take, length-drop, take-append-drop}
 use lib.Seq.{take-all, drop-drop}
-use Rattle.bits.specs.Str.{Bits, xorB}
+use Rattle.bits.specs.Str.{Bits, bytesBits, words, xorB}
+use Rattle.bits.proofs.Packed.{length-bytesBits}
 use Rattle.bits.proofs.Strings.{xorB-comm, xorB-assoc, xorB-twice, length-xorB}
-use Rattle.sm4.specs.Cipher.{Quad, quad, flat, τ, T, F, round, rounds, R, enc, dec, roundKeys, encrypted, decrypted}
+use Rattle.sm4.specs.Cipher.{Quad, quad, flat, four, τ, T, F, round, rounds, R, enc, dec, roundKeys, encrypted, decrypted}
 use Rattle.sm4.specs.Table.{rotations}
 use Rattle.sm4.proofs.Laws.{Long, length-Sbox, quad-flat, rounds-snoc}
 use Rattle.sm4.proofs.Rotations.{linear}
@@ -80,7 +81,7 @@ quad-long b h =
       l3 = omega (arith, length-take 32 (drop 96 b), length-drop 96 b);
     }
 
-pub flat-quad : (b : Bits) → length b ≡ 128 → flat (quad b) ≡ b
+flat-quad : (b : Bits) → length b ≡ 128 → flat (quad b) ≡ b
 unfolding flat quad
 flat-quad b h =
     ap (λ (v : Bits). take 32 b ++ (take 32 (drop 32 b) ++ (take 32 (drop 64 b) ++ v))) (take-all 32 (drop 96 b) last)
@@ -93,6 +94,10 @@ flat-quad b h =
 
     back : (n : ℕ) → take 32 (drop n b) ++ drop (n + 32) b ≡ drop n b
     back n = ap (λ (v : Bits). take 32 (drop n b) ++ v) (sym (drop-drop 32 n b)) ∙ take-append-drop 32 (drop n b)
+
+-- words that are those of sixteen bytes
+pub flat-loaded : (x b : List ℕ) → length b ≡ 16 → four (words x) ≡ quad (bytesBits b) → flat (four (words x)) ≡ bytesBits b
+flat-loaded x b h e = ap flat e ∙ flat-quad (bytesBits b) (omega (arith, length-bytesBits b))
 
 length-flat : (X : Quad) → Long X → length (flat X) ≡ 128
 unfolding flat

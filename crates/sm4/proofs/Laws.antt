@@ -159,7 +159,7 @@ module _ (i : ℕ) (below : i < 32) where
       sym (words-at c i (omega (arith, length-map c (bitsN 32), ap length e, length-CKs)))
       ∙ ap (λ (ws : List Bits). getD ws i []) e ∙ CKs-ith
 
--- ---- the words that the key expansion starts from
+-- ---- two blocks in words, by xor
 
 abbrev both : Quad → Quad → Quad
 both X Y = record { x0 = xorB (X .x0) (Y .x0); x1 = xorB (X .x1) (Y .x1); x2 = xorB (X .x2) (Y .x2); x3 = xorB (X .x3) (Y .x3) }
@@ -171,7 +171,7 @@ quad-xorB u v = λ i. record { x0 = take-xorB 32 u v i; x1 = part 32 i; x2 = par
     part : (n : ℕ) → take 32 (drop n (xorB u v)) ≡ xorB (take 32 (drop n u)) (take 32 (drop n v))
     part n = ap (take 32) (drop-xorB n u v) ∙ take-xorB 32 (drop n u) (drop n v)
 
-pub started : (x y : List ℕ) (key : Bits) → length x ≡ 4 → length y ≡ 4 → four (words x) ≡ quad key
+pub four-xor : (x y : List ℕ) → length x ≡ 4 → length y ≡ 4
     → four
     (words
     (bitXor (getD x 0 0) (getD y 0 0)
@@ -179,15 +179,19 @@ pub started : (x y : List ℕ) (key : Bits) → length x ≡ 4 → length y ≡ 
     ∷ bitXor (getD x 2 0) (getD y 2 0)
     ∷ bitXor (getD x 3 0) (getD y 3 0)
     ∷ []))
-    ≡ quad (xorB key (flat (four (words y))))
+    ≡ quad (xorB (flat (four (words x))) (flat (four (words y))))
 unfolding four words
-started x y key hx hy e =
+four-xor x y hx hy =
     (λ i. record { x0 = word 0 i; x1 = word 1 i; x2 = word 2 i; x3 = word 3 i })
-    ∙ sym (ap₂ both (sym e ∙ four-words x hx) (quad-flat (four (words y)) (long-words y hy) ∙ four-words y hy))
-    ∙ sym (quad-xorB key (flat (four (words y))))
+    ∙ sym (ap₂ both (whole x hx) (whole y hy))
+    ∙ sym (quad-xorB (flat (four (words x))) (flat (four (words y))))
   where
     word : (i : ℕ) → bitsN 32 (bitXor (getD x i 0) (getD y i 0)) ≡ xorB (bitsN 32 (getD x i 0)) (bitsN 32 (getD y i 0))
     word i = bitsN-xor 32 (getD x i 0) (getD y i 0)
+
+    whole : (z : List ℕ) (h : length z ≡ 4) → quad (flat (four (words z)))
+        ≡ record { x0 = bitsN 32 (getD z 0 0); x1 = bitsN 32 (getD z 1 0); x2 = bitsN 32 (getD z 2 0); x3 = bitsN 32 (getD z 3 0) }
+    whole z h = quad-flat (four (words z)) (long-words z h) ∙ four-words z h
 
 -- ---- a list backwards, one element more
 

@@ -10,7 +10,7 @@ use lib.ListN.{length, getD, length-append, List·getD-append}
 use lib.Seq.{getD-append-add}
 use Rattle.bits.specs.Str.{Bits, bitsN, numOf, bytesBits, zeros, xorB, rotl}
 use Rattle.bits.proofs.Numbers.{bitsN-numOf}
-use Rattle.bits.proofs.Strings.{xorB-comm, xorB-append, length-xorB, length-zeros, xorB-zeros}
+use Rattle.bits.proofs.Strings.{length-xorB, length-zeros, xorB-beside}
 use Rattle.bits.proofs.Packed.{spread, spread-all}
 use Rattle.sm4.specs.Cipher.{Sbox, τ, L, L′, T, T′}
 use Rattle.sm4.specs.Table.{rotations, mixing, placed, entry, entries, table, wide}
@@ -19,28 +19,21 @@ use Rattle.sm4.proofs.Rotations.{linear}
 
 -- ---- a word from its four bytes, each in its place
 
-beside : (x y : Bits) (m n : ℕ) → length x ≡ m → length y ≡ n → xorB (x ++ zeros n) (zeros m ++ y) ≡ x ++ y
-beside x y m n hx hy =
-    xorB-append x (zeros n) (zeros m) y (hx ∙ sym (length-zeros m))
-    ∙ ap₂ (λ (u v : Bits). u ++ v)
-    (ap (λ (k : ℕ). xorB x (zeros k)) (sym hx) ∙ xorB-zeros x)
-    (xorB-comm (zeros n) y ∙ ap (λ (k : ℕ). xorB y (zeros k)) (sym hy) ∙ xorB-zeros y)
-
 in-places : (a b c d : Bits) → length a ≡ 8 → length b ≡ 8 → length c ≡ 8 → length d ≡ 8
     → xorB (xorB (placed 0 a) (placed 1 b)) (xorB (placed 2 c) (placed 3 d)) ≡ a ++ (b ++ (c ++ d))
 unfolding placed zeros
 in-places a b c d ha hb hc hd =
     ap₂ xorB (high ∙ sym (append-assoc a b (zeros 16))) low
-    ∙ beside (a ++ b) (c ++ d) 16 16 (omega (arith, length-append a b)) (omega (arith, length-append c d))
+    ∙ xorB-beside (a ++ b) (c ++ d) 16 16 (omega (arith, length-append a b)) (omega (arith, length-append c d))
     ∙ append-assoc a b (c ++ d)
   where
     high : xorB (placed 0 a) (placed 1 b) ≡ a ++ (b ++ zeros 16)
-    high = beside a (b ++ zeros 16) 8 24 ha (omega (arith, length-append b (zeros 16), length-zeros 16))
+    high = xorB-beside a (b ++ zeros 16) 8 24 ha (omega (arith, length-append b (zeros 16), length-zeros 16))
 
     low : xorB (placed 2 c) (placed 3 d) ≡ zeros 16 ++ (c ++ d)
     low =
         ap (λ (w : Bits). xorB (placed 2 c) (zeros 24 ++ w)) (append-nil d)
-        ∙ beside (zeros 16 ++ c) d 24 8 (omega (arith, length-append (zeros 16) c, length-zeros 16)) hd
+        ∙ xorB-beside (zeros 16 ++ c) d 24 8 (omega (arith, length-append (zeros 16) c, length-zeros 16)) hd
 
 -- what the byte x becomes, in place j of a word
 abbrev pub substitute : ℕ → ℕ → Bits
@@ -85,15 +78,15 @@ module _ (l : ℕ) where
       ∙ in-four (getD b 0 0) (getD b 1 0) (getD b 2 0) (getD b 3 0)
       ∙ ap (λ (b : List ℕ). mixing l (bytesBits b)) (spread-all 4 b e)
 
-  -- ---- what stands where in a table
+-- ---- what stands where in a table
 
-  entry-bits : (j x : ℕ) → j < 4 → bitsN 32 (entry l j x) ≡ rotations l (substitute j x)
-  unfolding entry
-  entry-bits j x e =
-      let w = rotations l (substitute j x) in
-      ap (λ (n : ℕ). bitsN n (numOf w)) (sym (linear l .long (substitute j x) ∙ length-substitute j x e)) ∙ bitsN-numOf w
+entry-bits : (l j x : ℕ) → j < 4 → bitsN 32 (entry (rotations l) j x) ≡ rotations l (substitute j x)
+unfolding entry
+entry-bits l j x e =
+    let w = rotations l (substitute j x) in
+    ap (λ (n : ℕ). bitsN n (numOf w)) (sym (linear l .long (substitute j x) ∙ length-substitute j x e)) ∙ bitsN-numOf w
 
-module _ (l j : ℕ) where
+module _ (l : Bits → Bits) (j : ℕ) where
   length-entries : (n x : ℕ) → length (entries l j n x) ≡ n
   unfolding entries
   length-entries zero x = refl
@@ -105,31 +98,33 @@ module _ (l j : ℕ) where
   entries-at (suc n) x zero h = ap (entry l j) (sym (add-zero x))
   entries-at (suc n) x (suc i) h = entries-at n (suc x) i (omega arith) ∙ ap (entry l j) (suc-add x i ∙ sym (add-suc x i))
 
-  alone : (x : ℕ) → x < 256 → getD (entries l j 256 0) x 0 ≡ entry l j x
-  alone x h = entries-at 256 0 x h ∙ ap (entry l j) (zero-add x)
+  getD-entries : (x : ℕ) → x < 256 → getD (entries l j 256 0) x 0 ≡ entry l j x
+  getD-entries x h = entries-at 256 0 x h ∙ ap (entry l j) (zero-add x)
 
   -- in the first of several tables, and past it
-  here : (x : ℕ) (r : List ℕ) → x < 256 → getD (entries l j 256 0 ++ r) x 0 ≡ entry l j x
-  here x r h = List·getD-append (entries l j 256 0) r 0 x (omega (arith, length-entries 256 0)) ∙ alone x h
+  getD-first : (x : ℕ) (r : List ℕ) → x < 256 → getD (entries l j 256 0 ++ r) x 0 ≡ entry l j x
+  getD-first x r h = List·getD-append (entries l j 256 0) r 0 x (omega (arith, length-entries 256 0)) ∙ getD-entries x h
 
-  past : (x : ℕ) (r : List ℕ) → getD (entries l j 256 0 ++ r) (256 + x) 0 ≡ getD r x 0
-  past x r = ap (λ (n : ℕ). getD (entries l j 256 0 ++ r) (n + x) 0) (sym (length-entries 256 0)) ∙ getD-append-add (entries l j 256 0) r x 0
+  getD-past : (x : ℕ) (r : List ℕ) → getD (entries l j 256 0 ++ r) (256 + x) 0 ≡ getD r x 0
+  getD-past x r =
+      ap (λ (n : ℕ). getD (entries l j 256 0 ++ r) (n + x) 0) (sym (length-entries 256 0)) ∙ getD-append-add (entries l j 256 0) r x 0
 
-at : (t : List ℕ) (j x n : ℕ) → 256 * j + x ≡ n → getD t (256 * j + x) 0 ≡ getD t n 0
-at t j x n e = ap (λ (m : ℕ). getD t m 0) e
+getD-at : (t : List ℕ) (j x n : ℕ) → 256 * j + x ≡ n → getD t (256 * j + x) 0 ≡ getD t n 0
+getD-at t j x n e = ap (λ (m : ℕ). getD t m 0) e
 
-in-table : (l x : ℕ) → l < 2 → x < 256 → getD table (256 * l + x) 0 ≡ entry l 0 x
-unfolding table
-in-table zero x k h = at table 0 x x (omega arith) ∙ here 0 0 x _ h
-in-table (suc zero) x k h = past 0 0 x _ ∙ alone 1 0 x h
+in-table : (l x : ℕ) → l < 2 → x < 256 → getD table (256 * l + x) 0 ≡ entry (rotations l) 0 x
+unfolding table rotations
+in-table zero x k h = getD-at table 0 x x (omega arith) ∙ getD-first L 0 x _ h
+in-table (suc zero) x k h = getD-past L 0 x _ ∙ getD-entries L′ 0 x h
 in-table (suc (suc l)) x k h = absurd (omega arith)
 
-in-wide : (j x : ℕ) → 0 < j → j < 4 → x < 256 → getD wide (256 * (j - 1) + x) 0 ≡ entry 0 j x
-unfolding wide
+in-wide : (j x : ℕ) → 0 < j → j < 4 → x < 256 → getD wide (256 * (j - 1) + x) 0 ≡ entry (rotations 0) j x
+unfolding wide rotations
 in-wide zero x p k h = absurd (omega arith)
-in-wide (suc zero) x p k h = at wide 0 x x (omega arith) ∙ here 0 1 x _ h
-in-wide (suc (suc zero)) x p k h = past 0 1 x _ ∙ here 0 2 x _ h
-in-wide (suc (suc (suc zero))) x p k h = at wide 2 x (256 + (256 + x)) (omega arith) ∙ past 0 1 (256 + x) _ ∙ past 0 2 x _ ∙ alone 0 3 x h
+in-wide (suc zero) x p k h = getD-at wide 0 x x (omega arith) ∙ getD-first L 1 x _ h
+in-wide (suc (suc zero)) x p k h = getD-past L 1 x _ ∙ getD-first L 2 x _ h
+in-wide (suc (suc (suc zero))) x p k h =
+    getD-at wide 2 x (256 + (256 + x)) (omega arith) ∙ getD-past L 1 (256 + x) _ ∙ getD-past L 2 x _ ∙ getD-entries L 3 x h
 in-wide (suc (suc (suc (suc j)))) x p k h = absurd (omega arith)
 
 -- ---- the look-ups of the code

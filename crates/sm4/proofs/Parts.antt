@@ -14,9 +14,9 @@ use Rattle.sm4.specs.Split.{joined, Ready, Stepped}
 use Rattle.sm4.specs.declared.Split.{Split}
 use Rattle.sm4.proofs.Laws.{four-words}
 
--- two words by xor, and then the key of the next round
-both : (a b k : ℕ) → bitsN 32 (bitXor (bitXor a b) k) ≡ xorB (xorB (bitsN 32 a) (bitsN 32 b)) (bitsN 32 k)
-both a b k = bitsN-xor 32 (bitXor a b) k ∙ ap (λ (w : Bits). xorB w (bitsN 32 k)) (bitsN-xor 32 a b)
+-- three words by xor
+three : (a b c : ℕ) → bitsN 32 (bitXor (bitXor a b) c) ≡ xorB (xorB (bitsN 32 a) (bitsN 32 b)) (bitsN 32 c)
+three a b c = bitsN-xor 32 (bitXor a b) c ∙ ap (λ (w : Bits). xorB w (bitsN 32 c)) (bitsN-xor 32 a b)
 
 -- ---- the beginning, and the end
 
@@ -36,7 +36,7 @@ module _ (x : List ℕ) (k : ℕ) where
 
   pub first-ready : Ready (first x k) (bitsN 32 k)
   unfolding Ready
-  first-ready = both (getD x 1 0) (getD x 2 0) k
+  first-ready = three (getD x 1 0) (getD x 2 0) k
 
 -- the newest word is the one that the last round made
 pub newest : (s : Split) → bitsN 32 (bitXor (s .m) (s .n)) ≡ joined s .x3
@@ -78,7 +78,7 @@ module _ (t : Bits → Bits) (s : Split) (a b c d k : ℕ)
 
       mixed : bitsN 32 (bitXor (bitXor (s .n) (s .q)) (s .m)) ≡ xorB (xorB P (xorB M N)) rk
       mixed =
-          both (s .n) (s .q) (s .m)
+          three (s .n) (s .q) (s .m)
           ∙ ap (λ (w : Bits). xorB (xorB N w) M) ready
           ∙ xorB-comm (xorB N (xorB P rk)) M
           ∙ sym (xorB-assoc M N (xorB P rk))
@@ -87,13 +87,13 @@ module _ (t : Bits → Bits) (s : Split) (a b c d k : ℕ)
 
       made : xorB (bitsN 32 (bitXor (bitXor (s .x0) a) b)) (bitsN 32 (bitXor c d)) ≡ xorB (bitsN 32 (s .x0)) (t (xorB (xorB P (xorB M N)) rk))
       made =
-          ap₂ xorB (both (s .x0) a b ∙ xorB-assoc (bitsN 32 (s .x0)) (bitsN 32 a) (bitsN 32 b)) (bitsN-xor 32 c d)
+          ap₂ xorB (three (s .x0) a b ∙ xorB-assoc (bitsN 32 (s .x0)) (bitsN 32 a) (bitsN 32 b)) (bitsN-xor 32 c d)
           ∙ xorB-assoc (bitsN 32 (s .x0)) (xorB (bitsN 32 a) (bitsN 32 b)) (xorB (bitsN 32 c) (bitsN 32 d))
           ∙ ap (xorB (bitsN 32 (s .x0))) (adds ∙ ap t mixed)
 
   ready : Ready (after s a b c d k) (bitsN 32 k)
   unfolding Ready
-  ready = both (s .x2) (bitXor (s .m) (s .n)) k
+  ready = three (s .x2) (bitXor (s .m) (s .n)) k
 
   pub stepped : Stepped t s (after s a b c d k) (bitsN 32 k)
-  stepped = record { round = on; ready = ready }
+  stepped = record { goes = on; ready = ready }

@@ -39,7 +39,7 @@ module _ (t : Bits → Bits) (ks : List Bits) (all : length ks ≡ 32) where
     pub walk-new : joined r ≡ round t (rounds t (joined s₀) (take i ks)) (getD ks i [])
     walk-new =
         let at : i % 32 ≡ i = omega arith in
-        step .round _ (subst (λ (n : ℕ). Ready s (getD ks n [])) at (w .ready)) ∙ ap (λ X. round t X (getD ks i [])) (w .state)
+        step .goes _ (subst (λ (n : ℕ). Ready s (getD ks n [])) at (w .ready)) ∙ ap (λ X. round t X (getD ks i [])) (w .state)
 
     pub walk-on : Walked t ks s₀ r (i + 1)
     walk-on =

@@ -9,11 +9,11 @@ use Rattle.sm4.specs.declared.Split.{Split}
 unfoldable pub joined : Split → Quad
 joined s = record { x0 = bitsN 32 (s .x0); x1 = bitsN 32 (s .x1); x2 = bitsN 32 (s .x2); x3 = xorB (bitsN 32 (s .m)) (bitsN 32 (s .n)) }
 
--- the two words before the newest are put together with the next round's key
+-- q is the xor of the two words before the newest and of the next round's key
 unfoldable pub Ready : Split → Bits → Type 0
 Ready s rk = bitsN 32 (s .q) ≡ xorB (xorB (bitsN 32 (s .x1)) (bitsN 32 (s .x2))) rk
 
 -- from s to r is one round under whichever key s is ready for, and r is ready for k; t is T or T′
 pub record Stepped (t : Bits → Bits) (s r : Split) (k : Bits) : Type 0 where
-  pub round : (rk : Bits) → Ready s rk → joined r ≡ round t (joined s) rk
+  pub goes : (rk : Bits) → Ready s rk → joined r ≡ round t (joined s) rk
   pub ready : Ready r k

@@ -5,7 +5,7 @@ ghost use mathlib.Core.Path.{_≡_};
 ghost use mathlib.Core.List.{reverse};
 ghost use Prim.Native.Nat.{_<_};
 ghost use lib.ListN.{length};
-ghost use Rattle.bits.specs.Str.{Bits, bitsN, bytesBits, words, xorB};
+ghost use Rattle.bits.specs.Str.{bitsN, bytesBits, words, xorB};
 ghost use Rattle.sm4.specs.Constants.{FK, CK, CKs};
 ghost use Rattle.sm4.specs.Cipher.{quad, flat, four, Sbox, L, T, rounds, R, enc, dec, roundKeys};
 ghost use Rattle.sm4.specs.Table.{rotations, mixing, placed, table, wide};
@@ -89,9 +89,9 @@ fn wide_added(w: &Wide, j: usize, x: u8) -> u32
 
 // ---- the state between two rounds
 
-// The newest of the four words is m ^ n, and q is what the next round mixes with it. So kept, a round waits for no more than one
-// look-up and three xors. That also hangs on how the steps are written: with (s.n ^ s.q) ^ s.m in a function of its own, the
-// compiler joins m ^ n first, and a round waits for one xor more.
+// The newest of the four words is m ^ n, and q is what the next round mixes with it: the two words before and its key. So kept, the
+// look-ups of a round follow those of the round before after three xors. That also hangs on how the steps are written: with
+// (s.n ^ s.q) ^ s.m in a function of its own, the compiler joins m ^ n first, and there is one xor more to wait for.
 struct Split {
     x0: u32,
     x1: u32,
@@ -199,9 +199,9 @@ pub fn store(x: [u32; 4]) -> [u8; 16]
     ]
 }
 
-// Four words by xor with four others: of a block in words and a second one.
+// Two blocks in words, by xor.
 fn xor(x: [u32; 4], y: [u32; 4]) -> [u32; 4]
-    ensures { λ r. ⌜ ((b : Bits) → four (words x) ≡ quad b → four (words r) ≡ quad (xorB b (flat (four (words y))))) ⌝ }
+    ensures { λ r. ⌜ four (words r) ≡ quad (xorB (flat (four (words x))) (flat (four (words y)))) ⌝ }
 {
     [x[0] ^ y[0], x[1] ^ y[1], x[2] ^ y[2], x[3] ^ y[3]]
 }
@@ -212,11 +212,11 @@ fn rounds(t: &Table, rk: [u32; 32], start: [u32; 4]) -> [u32; 4]
     ensures { λ r. ⌜ four (words r) ≡ R (rounds T (four (words start)) (words rk)) ⌝ }
 {
     let mut s = parted(start, rk[0]);
-    let mut i: usize = 0;
-    while i < 32 {
-        let next = step(t, 0, s, rk[(i + 1) % 32]);
+    let mut turn: usize = 0;
+    while turn < 32 {
+        let next = step(t, 0, s, rk[(turn + 1) % 32]);
         s = next;
-        i += 1;
+        turn += 1;
     }
     reversed(s)
 }

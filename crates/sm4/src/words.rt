@@ -518,8 +518,8 @@ pub const TABLE: [u32; 512] = [
     0x48240900,
 ];
 
-// Three tables, one after the other: entry x is L of the word whose second, third or lowest byte is the byte table's entry x, and
-// whose other bytes are zero.
+// Three tables, one after the other: entry x of the first, second and third is L of the word whose second, third and fourth byte is the
+// byte table's entry x, and whose other bytes are zero.
 pub const WIDE: [u32; 768] = [
     0x5b8ed55b,
     0x42d09242,

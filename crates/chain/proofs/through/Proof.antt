@@ -8,9 +8,8 @@ use lib.ListN.{length, length-drop}
 use lib.Seq.{length-take-le}
 use borrow.Author.Needs.{needs}
 use Rattle.bits.specs.Str.{Bits, bytesBits, words}
-use Rattle.bits.proofs.Packed.{length-bytesBits}
 use Rattle.sm4.specs.Cipher.{flat, four, enc}
-use Rattle.sm4.proofs.Inverse.{flat-quad}
+use Rattle.sm4.proofs.Inverse.{flat-loaded}
 use Rattle.chain.specs.Chain.{chained}
 use Rattle.chain.proofs.Feeding.{chained-turn, from-is}
 use Rattle.chain.proofs.through.Statement.{statement}
@@ -85,8 +84,7 @@ returns-2 c =
     let a = at .before .before .before .before .before .before .args in
     let z : at .loop .left ≡ 0 = omega arith in
     let sixteen : length (a .t3) ≡ 16 = search needs in
-    let start : flat (four (words (at .before .load .result))) ≡ bytesBits (a .t3)
-    = ap flat (at .before .load .ensures) ∙ flat-quad (bytesBits (a .t3)) (omega (arith, length-bytesBits (a .t3))) in
+    let start = flat-loaded _ (a .t3) sixteen (at .before .load .ensures) in
     c .store .ensures ∙ (rw z at (at .loop .inv .0))
     ∙ ap (λ (h : Bits). chained (enc (words (a .k))) (a .blocks) h (bytesBits (a .bytes .now))) start
 

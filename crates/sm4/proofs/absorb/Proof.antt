@@ -1,8 +1,9 @@
 -- `absorb` meets its contract: what its three calls ensure, one put into the other, is `enc` written out.
 -- Assumes nothing.
 use mathlib.Core.Path.{ap, _∙_}
-use Rattle.bits.specs.Str.{words}
-use Rattle.sm4.specs.Cipher.{Quad, flat, R, rounds, T, enc}
+use Rattle.bits.specs.Str.{Bits, words, xorB}
+use Rattle.sm4.specs.Cipher.{Quad, quad, flat, four, R, rounds, T, enc}
+use Rattle.sm4.proofs.Inverse.{flat-loaded}
 use borrow.Author.Needs.{needs}
 use Rattle.sm4.proofs.absorb.Statement.{statement}
 use Rattle.sm4.proofs.absorb.Tie as tie
@@ -19,9 +20,11 @@ wide-rounds-requires c κs = search needs
 returns : tie.Need-returns
 unfolding enc
 returns c =
-    let rk = c .before .before .before .before .args .rk in
+    let a = c .before .before .before .before .args in
+    let block = flat-loaded _ _ (search needs) (c .before .before .load .ensures) in
     ap flat
-    (c .wide-rounds .ensures ∙ ap (λ (X : Quad). R (rounds T X (words rk))) (c .before .xor .ensures _ (c .before .before .load .ensures)))
+    (c .wide-rounds .ensures
+    ∙ ap (λ (X : Quad). R (rounds T X (words (a .rk)))) (c .before .xor .ensures ∙ ap (λ (b : Bits). quad (xorB b (flat (four (words (a .h)))))) block))
 
 pub absorb-spec : {M : Type 1} → statement M
 absorb-spec = tie.close (tie.spec load-requires xor-requires wide-rounds-requires returns)

@@ -70,8 +70,11 @@ word-requires-4 c κs = search needs
 returns : tie.Need-returns
 unfolding spread
 returns c =
-    loaded (c .before .before .before .before .before .before .before .before .before .before .before .before .before .before .before .before .before .before .before .before .before .args .s .now) _ _ _ _ (search needs)
-    (c .before .before .before .before .before .before .before .before .before .before .before .before .before .before .before .word .ensures) (c .before .before .before .before .before .before .before .before .before .before .word2 .ensures) (c .before .before .before .before .before .word3 .ensures) (c .word4 .ensures)
+    let third = c .before .before .before .before .before in
+    let second = third .before .before .before .before .before in
+    let first = second .before .before .before .before .before in
+    let part = first .before .before .before .before .before .before .args .s .now in
+    loaded part _ _ _ _ (search needs) (first .word .ensures) (second .word2 .ensures) (third .word3 .ensures) (c .word4 .ensures)
 
 pub load-spec : {M : Type 1} → statement M
 load-spec =

@@ -12,10 +12,10 @@ use Rattle.sm4.proofs.rounds.Statement.{statement}
 use Rattle.sm4.proofs.rounds.Tie as tie
 
 abbrev Inv-loop : tie.InvT-loop
-Inv-loop t rk s₀ i₀ s i = Walked T (words rk) s₀ s i
+Inv-loop t rk s₀ turn₀ s turn = Walked T (words rk) s₀ s turn
 
 abbrev μ-loop : tie.MeasureT-loop
-μ-loop t rk s₀ i₀ s i = 32 - i
+μ-loop t rk s₀ turn₀ s turn = 32 - turn
 
 array-read-parted : tie.Need-array-read-parted Inv-loop μ-loop
 array-read-parted c = search needs
@@ -41,8 +41,8 @@ array-read-step c = search needs
 step-requires : tie.Need-step-requires Inv-loop μ-loop
 step-requires c κs = search needs
 
-add-i : tie.Need-add-i Inv-loop μ-loop
-add-i c = search needs
+add-turn : tie.Need-add-turn Inv-loop μ-loop
+add-turn c = search needs
 
 loop-less : tie.Need-loop-less Inv-loop μ-loop
 loop-less c = search needs
@@ -54,7 +54,7 @@ loop-again c =
     let l = at .loop in
     let rk = at .before .before .args .t2 in
     let all : length rk ≡ 32 = search needs in
-    walk-on T (words rk) (length-keys rk all) _ (l .s) (c .step .result) (l .i) (l .inv) (search needs) _ (key-at rk all (l .i + 1)) (c .step .ensures)
+    walk-on T (words rk) (length-keys rk all) _ (l .s) (c .step .result) (l .turn) (l .inv) (search needs) _ (key-at rk all (l .turn + 1)) (c .step .ensures)
 
 reversed-requires : tie.Need-reversed-requires Inv-loop μ-loop
 reversed-requires c κs = search needs
@@ -66,7 +66,7 @@ returns c =
     let rk = at .before .before .args .t2 in
     let all : length rk ≡ 32 = search needs in
     c .reversed .ensures
-    ∙ ap R (walk-end T (words rk) (length-keys rk all) _ (l .s) (l .i) (l .inv) (search needs) ∙ ap (λ X. rounds T X (words rk)) (at .before .parted .ensures .0))
+    ∙ ap R (walk-end T (words rk) (length-keys rk all) _ (l .s) (l .turn) (l .inv) (search needs) ∙ ap (λ X. rounds T X (words rk)) (at .before .parted .ensures .0))
 
 pub rounds-spec : {M : Type 1} → statement M
 rounds-spec =
@@ -81,7 +81,7 @@ rounds-spec =
     mul-step
     array-read-step
     step-requires
-    add-i
+    add-turn
     loop-less
     loop-again
     reversed-requires

@@ -1,6 +1,6 @@
--- `xor` meets its contract: the four words of an xor are the xors of the words (`started`).
+-- `xor` meets its contract: the four words of an xor are the xors of the words (`four-xor`).
 -- Assumes nothing.
-use Rattle.sm4.proofs.Laws.{started}
+use Rattle.sm4.proofs.Laws.{four-xor}
 use borrow.Author.Needs.{needs}
 use Rattle.sm4.proofs.xor.Statement.{statement}
 use Rattle.sm4.proofs.xor.Tie as tie
@@ -30,7 +30,7 @@ array-read-t31 : tie.Need-array-read-t31
 array-read-t31 c = search needs
 
 returns : tie.Need-returns
-returns c = λ b e. started (c .args .t1) (c .args .t2) b (search needs) (search needs) e
+returns c = four-xor (c .args .t1) (c .args .t2) (search needs) (search needs)
 
 pub xor-spec : {M : Type 1} → statement M
 xor-spec =
