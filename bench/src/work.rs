@@ -1,5 +1,5 @@
-//! The measured work, each piece as the library does it and as the baseline does it: a tag in one call, a session, a slip read.
-//! Answers are turned into plain numbers, so that the two can be compared.
+//! The measured work, each piece as the library, the baseline and, for CMAC, the peers do it: a tag in one call, a session, a slip
+//! read. Answers are turned into plain numbers, so that they can be compared.
 
 use crate::measure::{Line, Way};
 use crate::peer::Peer;
