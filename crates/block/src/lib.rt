@@ -1,11 +1,11 @@
-// Sixteen bytes by value. One function moves bits, `window`; joining, truncation, turns and doubling are calls of it, but where
-// whole bytes are joined, none is moved by bits. Every function but `put` and the inner parts `copy` and `join_bytes` answers every
-// argument.
+// Sixteen bytes by value, of which a block of n bits takes the first n. One function moves bits, `window`; joining, truncation, turns
+// and doubling are calls of it, but where whole bytes are joined, none is moved by bits. Every function answers every argument but
+// `put`, the inner parts `copy` and `join_bytes`, and those that take n: it is 128 at most, and where a bit is looked at, 1 at least.
 ghost use mathlib.Core.Path.{_≡_};
 ghost use mathlib.Core.List.{_++_};
-ghost use Prim.Native.Nat.{_-_, _≤_};
+ghost use Prim.Native.Nat.{_-_, _≤_, _<_};
 ghost use lib.ListN.{length, take, drop, replicate};
-ghost use Rattle.bits.specs.Str.{bytesBits, xorB, sameB, rotl, rotr, leftmost, rightmost, filled, double, everySecond};
+ghost use Rattle.bits.specs.Str.{bitsN, bytesBits, xorB, sameB, rotl, rotr, leftmost, rightmost, filled, double, everySecond};
 ghost use Rattle.block.specs.Block.{front, lastBlock};
 
 // Two blocks, bit by bit.
@@ -80,39 +80,64 @@ pub fn leftmost(b: [u8; 16], m: usize) -> [u8; 16]
     join(b, m, [0u8; 16])
 }
 
-// The rightmost m bits moved to the left, and zeros after them.
-pub fn rightmost(b: [u8; 16], m: usize) -> [u8; 16]
-    ensures { λ r. ⌜ bytesBits r ≡ filled 128 (rightmost m (bytesBits b)) ⌝ }
+// The leftmost m of the first n bits, and zeros after them.
+pub fn leftmost_of(b: [u8; 16], n: usize, m: usize) -> [u8; 16]
+    ensures { λ r. ⌜ bytesBits r ≡ filled 128 (leftmost m (take n (bytesBits b))) ⌝ }
 {
-    if 128 <= m {
-        return b;
+    if n < m {
+        return leftmost(b, n);
     }
-    window(b, [0u8; 16], 128 - m)
+    leftmost(b, m)
 }
 
-// Rotated left by one bit.
-pub fn turn_left(b: [u8; 16]) -> [u8; 16]
-    ensures { λ r. ⌜ bytesBits r ≡ rotl 1 (bytesBits b) ⌝ }
+// The rightmost m of the first n bits moved to the left, and zeros after them.
+pub fn rightmost_of(b: [u8; 16], n: usize, m: usize) -> [u8; 16]
+    requires { ⌜ n ≤ 128 ⌝ }
+    ensures { λ r. ⌜ bytesBits r ≡ filled 128 (rightmost m (take n (bytesBits b))) ⌝ }
 {
-    window(b, b, 1)
+    if n <= m {
+        return leftmost(b, n);
+    }
+    window(leftmost(b, n), [0u8; 16], n - m)
 }
 
-// Rotated right by one bit.
-pub fn turn_right(b: [u8; 16]) -> [u8; 16]
-    ensures { λ r. ⌜ bytesBits r ≡ rotr 1 (bytesBits b) ⌝ }
+// The first n bits rotated left by one, and zeros after them: where they are repeated, the first stands after the last.
+pub fn turn_left(b: [u8; 16], n: usize) -> [u8; 16]
+    requires { ⌜ (0 < n) × (n ≤ 128) ⌝ }
+    ensures { λ r. ⌜ bytesBits r ≡ filled 128 (rotl 1 (take n (bytesBits b))) ⌝ }
 {
-    window(b, b, 127)
+    leftmost(window(join(b, n, b), b, 1), n)
 }
 
-// Doubled: shifted left by one, and 87 put into the last byte where the bit shifted out was 1.
-pub fn double(b: [u8; 16]) -> [u8; 16]
-    ensures { λ r. ⌜ bytesBits r ≡ double 0x87 (bytesBits b) ⌝ }
+// The first n bits rotated right by one, and zeros after them: where they are moved to the block's end, the last stands before the
+// first of another such block.
+pub fn turn_right(b: [u8; 16], n: usize) -> [u8; 16]
+    requires { ⌜ (0 < n) × (n ≤ 128) ⌝ }
+    ensures { λ r. ⌜ bytesBits r ≡ filled 128 (rotr 1 (take n (bytesBits b))) ⌝ }
 {
-    let w = window(b, [0u8; 16], 1);
+    leftmost(window(window(b, b, n), b, 127), n)
+}
+
+// A number in n bits, the lowest bit last, and zeros after it.
+pub fn number(x: u32, n: usize) -> [u8; 16]
+    requires { ⌜ n ≤ 128 ⌝ }
+    ensures { λ r. ⌜ bytesBits r ≡ filled 128 (bitsN n x) ⌝ }
+{
+    let b = bits::bytes(x);
+    let all = [0, 0, 0, 0, 0, 0, 0, 0, 0, 0, 0, 0, b[0], b[1], b[2], b[3]];
+    rightmost_of(all, 128, n)
+}
+
+// The first n bits doubled, and zeros after them: shifted left by one, and the number p put in by xor where the bit shifted out was 1.
+pub fn double(b: [u8; 16], n: usize, p: u32) -> [u8; 16]
+    requires { ⌜ (0 < n) × (n ≤ 128) ⌝ }
+    ensures { λ r. ⌜ bytesBits r ≡ filled 128 (double p (take n (bytesBits b))) ⌝ }
+{
+    let w = window(leftmost(b, n), [0u8; 16], 1);
     if b[0] < 128 {
         return w;
     }
-    xor(w, [0, 0, 0, 0, 0, 0, 0, 0, 0, 0, 0, 0, 0, 0, 0, 0x87])
+    xor(w, number(p, n))
 }
 
 // Every second group of four bits complemented, beginning with the first.

@@ -2,28 +2,30 @@
 // blocks of a padded message.
 ghost use mathlib.Core.Path.{_≡_};
 ghost use Prim.Native.Nat.{suc, _-_, _/_};
+ghost use Rattle.cipher.specs.Cipher.{Cipher};
+ghost use Rattle.cipher.specs.Ciphers.{cipherAt};
 ghost use Rattle.mac.specs.Padding.{methodAt, blockCount};
-ghost use Rattle.mac.specs.Sm4.{sm4};
 
 // How many blocks hold so many bits: one at least.
-fn holding(bits: usize) -> usize
-    ensures { λ r. ⌜ r ≡ suc ((bits - 1) / sm4 .n) ⌝ }
+fn holding(cipher: usize, bits: usize) -> usize
+    ensures { λ r. ⌜ r ≡ suc ((bits - 1) / cipherAt cipher .n) ⌝ }
 {
+    let n = cipher::width(cipher);
     if bits == 0 {
         return 1;
     }
-    (bits - 1) / 128 + 1
+    (bits - 1) / n + 1
 }
 
-// q, by the padding's number and the message's bit count.
-pub fn block_count(padding: usize, bits: usize) -> usize
-    ensures { λ r. ⌜ r ≡ blockCount (methodAt padding) (sm4 .n) bits ⌝ }
+// q, by the numbers of the cipher and the padding and the message's bit count.
+pub fn block_count(cipher: usize, padding: usize, bits: usize) -> usize
+    ensures { λ r. ⌜ r ≡ blockCount (methodAt padding) (cipherAt cipher .n) bits ⌝ }
 {
     if padding == 2 {
-        return bits / 128 + 1;
+        return bits / cipher::width(cipher) + 1;
     }
     if padding == 3 {
-        return holding(bits) + 1;
+        return holding(cipher, bits) + 1;
     }
-    holding(bits)
+    holding(cipher, bits)
 }

@@ -1,41 +1,37 @@
 -- What the functions hand back is what the specs say. Round keys that were expanded from K, K′ and K″ are those of the record's keys
--- (`expands`); the tag of an open record has m bits, for chain values and blocks stay 128 bits long (`tag-long`), so that the first
--- bytes of a block that begins with it are its bytes (`room-is`).
+-- (`expands`); the tag of an open record has m bits (`tag-long`), so that the first bytes of a block that begins with it are its bytes
+-- (`room-is`).
 -- Assumes nothing.
 use mathlib.Core.Path.{_≡_, refl, sym, ap, _∙_}
 use mathlib.Core.Bool.{Bool, true, false, _&&_}
 use mathlib.Core.List.{List, [], _∷_, _++_}
-use Prim.Native.Nat.{ℕ, zero, suc, _+_, _-_, _*_, _/_, _≤_, _<_}
+use Prim.Native.Nat.{ℕ, _+_, _-_, _*_, _≤_, _<_}
 use native.Mathlib.Decide.{decLt}
 use native.Mathlib.Omega.{arith}
 use borrow.Author.Tests.{lt-ltb, le-ltb}
 use lib.Dec.{eqb, ltb}
-use lib.ListN.{length, take, drop, length-append, length-drop}
-use lib.Seq.{length-take-le}
+use lib.ListN.{length, take, drop}
 use Rattle.bits.specs.Choice.{pick, Fault, _given_, firstOf}
-use Rattle.bits.specs.Str.{Bits, bytesBits, filled}
+use Rattle.bits.specs.Str.{Bits, bytesBits}
+use Rattle.block.specs.Block.{storage, filledBlock}
 use Rattle.bits.proofs.Faults.{first-append, first-append-clear}
 use Rattle.bits.proofs.Same.{Bytes}
-use Rattle.bits.proofs.Strings.{length-xorB}
-use Rattle.bits.proofs.Packed.{length-bytesBits}
-use Rattle.mac.specs.Padding.{methodAt, suffix, complete}
-use Rattle.mac.specs.Algorithm.{algorithmAt, Keys, keys, Steps, steps}
+use Rattle.mac.specs.Algorithm.{Keys, keys}
 use Rattle.mac.specs.Tag.{bitsOf, bytesFor, tagBytes}
-use Rattle.mac.specs.Session.{State, holding, advance, pour, absorb, finish}
-use Rattle.mac.specs.Sm4.{sm4}
-use Rattle.mac.proofs.Padded.{count, count-pos, ahead, ahead-less, length-prefix, padded-length}
-use Rattle.mac.proofs.Steps.{Sound, sound, step-perm}
-use Rattle.mac.proofs.Absorbing.{absorb-held}
+use Rattle.mac.specs.Session.{State, absorb}
+use Rattle.cipher.specs.Cipher.{Cipher}
+use Rattle.cipher.specs.Ciphers.{cipherAt}
+use Rattle.cipher.proofs.Laws.{sm4-width, sm4-key, width-at}
 use Rattle.mac.proofs.TagBytes.{tagBytes-block, length-bitsOf}
-use Rattle.mac.proofs.Sm4.{lawful}
 use Rattle.settings.specs.declared.KeyBytes.{KeyBytes}
 use Rattle.settings.specs.Keys.{keysOf, keyBits}
 use Rattle.settings.specs.Faults.{settingsFaults, settingsRefusal}
 use Rattle.tag.specs.OneCall.{tooManyBits}
 use Rattle.chain.specs.declared.Rounds.{Rounds}
 use Rattle.chain.specs.declared.Hold.{Hold}
-use Rattle.chain.specs.Chain.{roundsBits, roundsOf, keyBlocks, stepsAt, heldBits, kept, holdBits}
-use Rattle.chain.proofs.Closing.{held-is}
+use Rattle.chain.specs.Chain.{roundsBits, roundsOf, keyBlocks, stateAt, kept, holdBits}
+use Rattle.chain.proofs.Rows.{whole-keys}
+use Rattle.chain.proofs.Standing.{reached-at, finish-long}
 use Rattle.session.specs.declared.Phase.{Phase}
 use Rattle.session.specs.declared.Session.{Session}
 use Rattle.session.specs.Record.{sessionBits, keysIn, stateIn, phaseAt, standing}
@@ -59,10 +55,11 @@ too-many-same l bits h = go (decLt (8388608 - l) bits)
 
 -- ---- round keys
 
-pub expands : (a : ℕ) (r : Rounds) (k k1 : List ℕ) (u : KeyBytes) → keyBits u ≡ keys (bytesBits k) (bytesBits k1)
-    → roundsBits r ≡ roundsOf a (keyBlocks k k1 (u .k2)) → roundsBits r ≡ roundsOf a (keys (bytesBits k) (bytesBits k1))
-unfolding keyBits keyBlocks
-expands a r k k1 u e h = h ∙ λ i. roundsOf a (record { k = bytesBits k; k′ = bytesBits k1; k″ = e i .k″ })
+pub expands : (a : ℕ) (r : Rounds) (k k1 : List ℕ) (u : KeyBytes) → length k ≡ 16 → length k1 ≡ 16 → length (u .k2) ≡ 16
+    → keyBits u ≡ keys (bytesBits k) (bytesBits k1) → roundsBits r ≡ roundsOf 1 a (keyBlocks 1 k k1 (u .k2)) → roundsBits r ≡ roundsOf 1 a (keys (bytesBits k) (bytesBits k1))
+unfolding keyBits
+expands a r k k1 u l l1 l2 e h =
+    h ∙ ap (roundsOf 1 a) (whole-keys 1 k k1 (u .k2) sm4-key l l1 l2) ∙ λ i. roundsOf 1 a (record { k = bytesBits k; k′ = bytesBits k1; k″ = e i .k″ })
 
 -- keys that were unpacked, told by their own bits
 pub unpacked : (u : KeyBytes) (k k′ : Bits) → keyBits u ≡ keys k k′ → keyBits u ≡ keys (bytesBits (u .k)) (bytesBits (u .k1))
@@ -93,7 +90,7 @@ module _ (a p m : ℕ) (s : List ℕ) (d no : ℕ) (K : Keys) (h : K ≡ keysOf 
 -- ---- a piece
 
 pub fed-is : (s : Session) (bytes : List ℕ) (bits : ℕ) (h : Hold) (ph : Phase) → bits ≤ 8 * length bytes
-    → holdBits h ≡ kept (absorb 128 (stepsIn (sessionBits s)) (stateIn (sessionBits s)) (take bits (bytesBits bytes)))
+    → holdBits h ≡ kept (absorb (cipherAt 1 .n) (stepsIn (sessionBits s)) (stateIn (sessionBits s)) (take bits (bytesBits bytes)))
     → ph ≡ phaseAt (s .total + bits)
     → sessionBits (record {
       phase = ph;
@@ -122,66 +119,22 @@ fed-is s bytes bits h ph le eh ep =
       chain = eh i .chain;
       held = eh i .held;
     })
-    ∙ ap (λ (n : ℕ). standing (sessionBits s) (s .total + n) (absorb 128 (stepsIn (sessionBits s)) (stateIn (sessionBits s)) (bitsOf bytes bits)))
+    ∙ ap (λ (n : ℕ). standing (sessionBits s) (s .total + n) (absorb (cipherAt 1 .n) (stepsIn (sessionBits s)) (stateIn (sessionBits s)) (bitsOf bytes bits)))
     (sym (length-bitsOf bytes bits le))
 
 -- ---- the tag has m bits
 
-module _ (a : ℕ) (K : Keys) where
-  abbrev S : Steps
-  S = stepsAt a K
-
-  abbrev ok : Sound 128 (algorithmAt a) (steps sm4 (algorithmAt a) K)
-  ok = sound sm4 lawful (algorithmAt a) K
-
-  -- chain values stay as long as a block
-  pour-long : (k : ℕ) (s : State) → k * 128 ≤ length (s .held) → length (s .value .out) ≡ 128 → length (pour 128 S k s .value .out) ≡ 128
-  unfolding pour
-  pour-long zero s h e = e
-  pour-long (suc k) s h e =
-      pour-long k (advance 128 S s) (omega (arith, length-drop 128 (s .held)))
-      (step-perm ok (s .begun) .keeps _ (length-xorB (take 128 (s .held)) (s .value .out) (block ∙ sym e) ∙ block))
-    where
-      block : length (take 128 (s .held)) ≡ 128
-      block = length-take-le 128 (s .held) (omega arith)
-
-  -- what waits after the padding is a whole block
-  finish-long : (w : Bool) (m p l : ℕ) (s : State) → m ≤ 128 → length (s .held) ≡ heldBits l → length (s .value .out) ≡ 128
-      → length (finish S w m (absorb 128 S s (suffix (methodAt p) 128 l)) .out) ≡ m
-  unfolding finish absorb
-  finish-long w m p l s hm hh hv = ok .cut-long w m _ (ok .last-perm w .keeps _ (length-xorB (t .held) (t .value .out) (held ∙ sym value) ∙ held)) hm
-    where
-      x : Bits
-      x = suffix (methodAt p) 128 l
-
-      t : State
-      t = absorb 128 S s x
-
-      together : length (s .held ++ x) ≡ heldBits l + length x
-      together = length-append (s .held) x ∙ ap (λ (n : ℕ). n + length x) hh
-
-      blocks : l + length x ≡ (count (methodAt p) 128 l - ahead (methodAt p)) * 128
-      blocks = omega (arith, padded-length (methodAt p) 128 l (omega arith), length-prefix (methodAt p) 128 l)
-
-      held : length (t .held) ≡ 128
-      held =
-          ap length (absorb-held 128 S s x)
-          ∙ omega (arith, length-drop ((length (s .held ++ x) - 1) / 128 * 128) (s .held ++ x), together, held-is l, blocks, count-pos (methodAt p) 128 l, ahead-less (methodAt p) 128 l)
-
-      value : length (t .value .out) ≡ 128
-      value = pour-long ((length (s .held ++ x) - 1) / 128) (holding s x) (omega arith) hv
-
-tag-long : (s : Session) → length (s .chain) ≡ 16 → length (s .held) ≡ 16 → s .m ≤ 128 → length (tagIn (sessionBits s)) ≡ s .m
-unfolding tagIn stateIn sessionBits
+tag-long : (s : Session) → length (s .chain) ≡ 16 → length (s .held) ≡ 16 → s .m ≤ storage → length (tagIn (sessionBits s)) ≡ s .m
+unfolding tagIn stateIn sessionBits stateAt
 tag-long s hc hh hm =
-    finish-long (s .algorithm) (keysIn (sessionBits s)) (complete 128 (s .total)) (s .m) (s .padding) (s .total) (stateIn (sessionBits s)) hm
-    (length-take-le (heldBits (s .total)) (bytesBits (s .held)) (omega (arith, held-is (s .total), length-bytesBits (s .held)))) (length-bytesBits (s .chain) ∙ omega arith)
+    finish-long 1 (s .algorithm) (s .padding) (keysIn (sessionBits s)) (s .m) (s .total) (stateIn (sessionBits s))
+    (reached-at (cipherAt 1 .n) (s .padding) (s .total) (record { chain = s .chain; held = s .held }) (width-at 1) hc hh) (omega (arith, sm4-width))
 
 -- ---- the bytes that are put into the room
 
 -- n bytes of a block that begins with the tag, and the room's own bytes after them
-pub room-is : (s : Session) (b room last : List ℕ) (n : ℕ) → length (s .chain) ≡ 16 → length (s .held) ≡ 16 → s .m ≤ 128 → Bytes 16 b
-    → bytesBits b ≡ filled 128 (tagIn (sessionBits s)) → n ≡ bytesFor (s .m) → last ≡ take n b ++ drop n room
+pub room-is : (s : Session) (b room last : List ℕ) (n : ℕ) → length (s .chain) ≡ 16 → length (s .held) ≡ 16 → s .m ≤ storage → Bytes 16 b
+    → bytesBits b ≡ filledBlock (tagIn (sessionBits s)) → n ≡ bytesFor (s .m) → last ≡ take n b ++ drop n room
     → last ≡ tagBytes (tagIn (sessionBits s)) ++ drop (bytesFor (s .m)) room
 room-is s b room last n hc hh hm sixteen e hn h =
     h ∙ ap (λ (k : ℕ). take k b ++ drop k room) hn

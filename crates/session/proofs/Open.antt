@@ -10,10 +10,13 @@ use borrow.Author.Tests.{eqb-true, ltb-false, eqb-false, eq-eqb, ne-eqb, not-fal
 use lib.ListN.{length}
 use lib.Dec.{eqb, ltb}
 use Rattle.bits.specs.Choice.{pick, _given_, firstOf}
-use Rattle.bits.specs.Str.{leftmost, filled}
+use Rattle.bits.specs.Str.{leftmost}
+use Rattle.block.specs.Block.{storage, filledBlock}
 use Rattle.bits.proofs.Choice.{hit, miss}
 use Rattle.bits.proofs.Strings.{sameB-eq}
 use Rattle.bits.proofs.Faults.{Clear, passed, done, Numbered, none, also, first-clear}
+use Rattle.cipher.specs.Cipher.{Cipher}
+use Rattle.cipher.specs.Ciphers.{cipherAt}
 use Rattle.mac.specs.Algorithm.{algorithmAt, row}
 use Rattle.mac.specs.Tag.{bytesFor}
 use Rattle.settings.specs.Faults.{settingsFaults, settingsRefusal}
@@ -71,11 +74,11 @@ fit-in (Part n) l e = go (eqb n 0) refl e
 pub record Open (s : SessionBits) : Type 0 where
   pub fit : s .phase ≡ phaseAt (s .total)
   pub sound : settingsRefusal (s .algorithm) (s .padding) (s .m) (pick (row (algorithmAt (s .algorithm)) .two) 32 16) (keysIn s) ≡ 0
-  pub short : s .m ≤ 128
+  pub short : s .m ≤ storage
   pub few : s .total ≤ 8388608
   pub declared : s .padding ≡ 3 → s .declared ≤ 8388608
   pub within : s .padding ≡ 3 → s .total ≤ s .declared
-  pub clean : filled 128 (leftmost (heldBits (s .total)) (s .held)) ≡ s .held
+  pub clean : filledBlock (leftmost (heldBits (cipherAt 1 .n) (s .total)) (s .held)) ≡ s .held
 
 pub opens : (s : SessionBits) → countsClosed s ≡ false → Open s
 unfolding countsClosed settingsUnsound tooManyBits passesDeclared strayBit
@@ -85,7 +88,7 @@ opens s e =
     let c = none-of (tooManyBits (s .total)) _ (b .1) in
     let d = none-of (eqb (s .padding) 3 && tooManyBits (s .declared)) _ (c .1) in
     let f = none-of (passesDeclared (s .padding) (s .declared) (s .total)) _ (d .1) in
-    let g = none-of (strayBit (heldBits (s .total)) (s .held)) [] (f .1) in
+    let g = none-of (strayBit (heldBits (cipherAt 1 .n) (s .total)) (s .held)) [] (f .1) in
     let sound = eqb-true _ 0 (not-false _ (b .0)) in
     record {
       fit = fit-in (s .phase) (s .total) (a .0);

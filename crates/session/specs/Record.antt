@@ -6,12 +6,13 @@ use Prim.Native.Nat.{ℕ, _%_}
 use lib.ListN.{take}
 use lib.Dec.{eqb, ltb}
 use Rattle.bits.specs.Choice.{pick}
-use Rattle.bits.specs.Str.{Bits, bytesBits, zeros, leftmost, filled, sameB}
-use Rattle.mac.specs.Cipher.{Run, just}
-use Rattle.mac.specs.Padding.{methodAt}
+use Rattle.bits.specs.Str.{Bits, bytesBits, zeros, leftmost, sameB}
+use Rattle.block.specs.Block.{storage, filledBlock}
+use Rattle.mac.specs.Run.{Run, just}
 use Rattle.mac.specs.Algorithm.{algorithmAt, Row, row, Keys, keys}
-use Rattle.mac.specs.Session.{State, opened}
-use Rattle.mac.specs.Sm4.{sm4}
+use Rattle.mac.specs.Session.{State}
+use Rattle.cipher.specs.Cipher.{Cipher}
+use Rattle.cipher.specs.Ciphers.{cipherAt}
 use Rattle.settings.specs.Faults.{settingsRefusal}
 use Rattle.tag.specs.OneCall.{tooManyBits}
 use Rattle.chain.specs.Chain.{heldBits, begunAt}
@@ -56,10 +57,10 @@ cleared = record {
   m = 0;
   declared = 0;
   total = 0;
-  k = zeros 128;
-  k′ = zeros 128;
-  chain = zeros 128;
-  held = zeros 128;
+  k = zeros storage;
+  k′ = zeros storage;
+  chain = zeros storage;
+  held = zeros storage;
 }
 
 -- ---- what it stands for
@@ -67,14 +68,17 @@ cleared = record {
 abbrev pub keysIn : SessionBits → Keys
 keysIn s = keys (s .k) (s .k′)
 
+-- a block of n bits is the first n of sixteen bytes
 unfoldable pub stateIn : SessionBits → State
-stateIn s = record { begun = begunAt (s .padding) (s .total); value = just (s .chain); held = take (heldBits (s .total)) (s .held) }
+stateIn s =
+    let n = cipherAt 1 .n in
+    record { begun = begunAt n (s .padding) (s .total); value = just (take n (s .chain)); held = take (heldBits n (s .total)) (s .held) }
 
 -- the phase after l bits
 unfoldable pub phaseAt : ℕ → Phase
 phaseAt l = pick (eqb (l % 8) 0) Edge (Part (l % 8))
 
--- the record of s that stands for t after l bits, zeros past the bits it holds
+-- the record of s that stands for t after l bits, zeros past the bits of its chain value and of its block
 unfoldable pub standing : SessionBits → ℕ → State → SessionBits
 standing s l t = record {
   phase = phaseAt l;
@@ -85,8 +89,8 @@ standing s l t = record {
   total = l;
   k = s .k;
   k′ = s .k′;
-  chain = t .value .out;
-  held = filled 128 (t .held);
+  chain = filledBlock (t .value .out);
+  held = filledBlock (t .held);
 }
 
 -- ---- when it counts as closed (01, "Numbered answers")
@@ -113,7 +117,7 @@ passesDeclared p d l = eqb p 3 && ltb d l
 
 -- a bit of the waiting block past the n bits it holds is set
 unfoldable pub strayBit : ℕ → Bits → Bool
-strayBit n w = not (sameB (filled 128 (leftmost n w)) w)
+strayBit n w = not (sameB (filledBlock (leftmost n w)) w)
 
 unfoldable pub countsClosed : SessionBits → Bool
 countsClosed s =
@@ -123,6 +127,6 @@ countsClosed s =
     tooManyBits (s .total) ∷
     (eqb (s .padding) 3 && tooManyBits (s .declared)) ∷
     passesDeclared (s .padding) (s .declared) (s .total) ∷
-    strayBit (heldBits (s .total)) (s .held) ∷
+    strayBit (heldBits (cipherAt 1 .n) (s .total)) (s .held) ∷
     []
     )

@@ -6,7 +6,8 @@ ghost use Prim.Native.Nat.{_+_, _*_, _%_, _≤_, _<_};
 ghost use lib.ListN.{length};
 ghost use lib.Dec.{eqb};
 ghost use Rattle.bits.specs.Choice.{pick, firstOf};
-ghost use Rattle.bits.specs.Str.{bytesBits, filled};
+ghost use Rattle.bits.specs.Str.{bytesBits};
+ghost use Rattle.block.specs.Block.{filledBlock};
 ghost use Rattle.mac.specs.Algorithm.{algorithmAt, row, keys};
 ghost use Rattle.mac.specs.Tag.{bitsOf};
 ghost use Rattle.settings.specs.Keys.{keyBits, keysOf};
@@ -160,7 +161,7 @@ fn counts_closed(s: Session) -> bool
     if passes_declared(padding, declared, total) {
         return true;
     }
-    stray_bit(chain::held_bits(total), held)
+    stray_bit(chain::held_bits(cipher::SM4, total), held)
 }
 
 // ---- start
@@ -208,9 +209,9 @@ fn fresh(
     let k = u.k;
     let k1 = u.k1;
     let k2 = u.k2;
-    let t = sm4::table();
-    let rounds = chain::expand(&t, algorithm, k, k1, k2);
-    let begun = chain::begin(&t, algorithm, padding, rounds, declared as u32);
+    let t = cipher::table(cipher::SM4);
+    let rounds = chain::expand(&t, cipher::SM4, algorithm, k, k1, k2);
+    let begun = chain::begin(&t, cipher::SM4, algorithm, padding, rounds, declared as u32);
     Session {
         phase: Phase::Edge,
         algorithm,
@@ -301,10 +302,11 @@ fn fed(s: Session, bytes: &[u8], bits: usize) -> Session
     let k2 = u.k2;
     let chain = s.chain;
     let held = s.held;
-    let t = sm4::table();
-    let rounds = chain::expand(&t, algorithm, k, k1, k2);
+    let t = cipher::table(cipher::SM4);
+    let rounds = chain::expand(&t, cipher::SM4, algorithm, k, k1, k2);
     let next = chain::feed(
         &t,
+        cipher::SM4,
         algorithm,
         padding,
         rounds,
@@ -365,7 +367,7 @@ fn finish_refusal(s: Session, room: usize) -> usize
 
 // The tag of an open session, and zeros after it.
 fn tag_block(s: Session) -> [u8; 16]
-    ensures { λ r. ⌜ bytesBits r ≡ filled 128 (tagIn (sessionBits s)) ⌝ }
+    ensures { λ r. ⌜ bytesBits r ≡ filledBlock (tagIn (sessionBits s)) ⌝ }
 {
     let algorithm = s.algorithm;
     let k = s.k;
@@ -374,10 +376,11 @@ fn tag_block(s: Session) -> [u8; 16]
     let k2 = u.k2;
     let chain = s.chain;
     let held = s.held;
-    let t = sm4::table();
-    let rounds = chain::expand(&t, algorithm, k, k1, k2);
+    let t = cipher::table(cipher::SM4);
+    let rounds = chain::expand(&t, cipher::SM4, algorithm, k, k1, k2);
     chain::close(
         &t,
+        cipher::SM4,
         algorithm,
         s.padding,
         s.m,
@@ -420,8 +423,9 @@ impl Session {
         let made = tag_block(self);
         block::put(made, tag::bytes_for(self.m), room);
         let shut = closed_session();
+        let calls = chain::calls(cipher::SM4, self.algorithm, self.padding, self.total);
         Step {
-            answer: settings::Answer::Made(chain::calls(self.algorithm, self.padding, self.total)),
+            answer: settings::Answer::Made(calls),
             session: shut,
         }
     }

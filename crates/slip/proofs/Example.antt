@@ -10,6 +10,7 @@ use Rattle.bits.specs.Str.{bitsN, digit, numOf, bytesBits, words, zeros, xorB, 
 use Rattle.block.specs.Block.{front}
 use Rattle.sm4.specs.Constants.{sbox, FK, ck, CK, CKs}
 use Rattle.sm4.specs.Cipher.{quad, flat, four, Sbox, τ, L, L′, T, T′, F, round, rounds, made, R, enc, roundKeys, encrypted}
+use Rattle.cipher.specs.Ciphers.{cipherAt}
 use Rattle.mac.specs.Padding.{methodAt, complete, gap, oneGap, prefix, suffix, pad, D}
 use Rattle.mac.specs.Algorithm.{algorithmAt, step, steps}
 use Rattle.mac.specs.Tag.{some, H, G, mac, tagOf, callsOf, bitsOf, bytesFor, byteGroups, tagBytes}
@@ -29,5 +30,5 @@ abbrev pub sealed : List ℕ
 sealed = coveredP12 ++ (0x7f ∷ 0x00 ∷ 0x0b ∷ 5 ∷ 4 ∷ 64 ∷ 0xa4 ∷ 0x7a ∷ 0x92 ∷ 0x99 ∷ 0xc7 ∷ 0xb8 ∷ 0x45 ∷ 0x6c ∷ [])
 
 pub accepted-example : readOf sealed key ≡ record { number = 0; year = 2026; month = 11; day = 4; amount = 500; calls = 3; place = 14; length = 2 }
-unfolding pick firstOf bitsN digit numOf bytesBits flatMap words zeros xorB zipWith xor sameB rotl leftmost filled shiftl double halvesFlipped everySecond front sbox FK ck CK CKs quad flat four Sbox τ L L′ T T′ F round rounds made R enc roundKeys encrypted methodAt complete gap oneGap prefix suffix pad D algorithmAt step steps some H G mac tagOf callsOf bitsOf bytesFor byteGroups tagBytes keysOf settingsFaults algorithmWrong paddingWrong sizeWrong longestTag keyBytesWrong keysSame keysWeak tagLengthWrong tagAt callsAt outside anyOutside pairAt lengthOf value endOf headFaults digitAt twoDigits yearOf monthOf dayOf days leap daysIn dateWrong lotAt amountAt sealAt lotField amountField sealField covered amountOf expiryFaults lotFaults amountFaults sealFaults layoutFaults algorithmNamed paddingNamed mNamed tagNamed sealDefined sealCalls sealWrong faultsUnder acceptedSlip readUnder readOf
+unfolding pick firstOf bitsN digit numOf bytesBits flatMap words zeros xorB zipWith xor sameB rotl leftmost filled shiftl double halvesFlipped everySecond front sbox FK ck CK CKs quad flat four Sbox τ L L′ T T′ F round rounds made R enc roundKeys encrypted cipherAt methodAt complete gap oneGap prefix suffix pad D algorithmAt step steps some H G mac tagOf callsOf bitsOf bytesFor byteGroups tagBytes keysOf settingsFaults algorithmWrong paddingWrong sizeWrong longestTag keyBytesWrong keysSame keysWeak tagLengthWrong tagAt callsAt outside anyOutside pairAt lengthOf value endOf headFaults digitAt twoDigits yearOf monthOf dayOf days leap daysIn dateWrong lotAt amountAt sealAt lotField amountField sealField covered amountOf expiryFaults lotFaults amountFaults sealFaults layoutFaults algorithmNamed paddingNamed mNamed tagNamed sealDefined sealCalls sealWrong faultsUnder acceptedSlip readUnder readOf
 accepted-example = refl

@@ -13,6 +13,8 @@ use borrow.Author.Tests.{le-ltb, eq-eqb, ne-eqb}
 use Rattle.bits.specs.Choice.{pick, Fault, _given_, firstOf}
 use Rattle.bits.specs.Str.{bytesBits, sameB}
 use Rattle.bits.proofs.Faults.{Clear, passed, done, Numbered, also, none, first-clear, clear-first, clear-append, first-append, first-append-clear, first-same, numbered-append}
+use Rattle.cipher.specs.Cipher.{Cipher}
+use Rattle.cipher.proofs.Laws.{sm4-width}
 use Rattle.mac.specs.Padding.{Method, methodAt, blockCount}
 use Rattle.mac.specs.Tag.{bytesFor}
 use Rattle.mac.proofs.Padded.{padded-length, blockCount-is}
@@ -49,7 +51,7 @@ module _ (a p n : ℕ) (least : 17 ≤ n) (most : n ≤ 1048576) where
 
   enough-blocks : tooFewBlocks a p (8 * n) ≡ false
   unfolding tooFewBlocks
-  enough-blocks = rw (le-ltb (blockCount (methodAt p) 128 (8 * n)) 2 (two-blocks (methodAt p))) (and-false (eqb a 4))
+  enough-blocks = rw (sm4-width, le-ltb (blockCount (methodAt p) 128 (8 * n)) 2 (two-blocks (methodAt p))) (and-false (eqb a 4))
     where
       and-false : (b : Bool) → (b && false) ≡ false
       and-false true = refl

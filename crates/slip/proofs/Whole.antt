@@ -3,7 +3,7 @@
 --
 -- `equal-slips`: two accepted slips under the same keys that agree in the covered bytes, the algorithm, the padding and m are equal.
 -- `seals-differ`: two accepted slips that differ, name the same settings with full tags, and differ only inside one stretch of 128
--- covered bits, have different seals. This is demand 3 (`sm4-one-block-differs-bytes` of crate mac).
+-- covered bits, have different seals. This is demand 3 (`promised-at` of crate mac).
 -- Assumes nothing.
 use mathlib.Core.Path.{_≡_, refl, sym, ap, ap₂, _∙_, subst}
 use mathlib.Core.Bool.{Bool, true, false}
@@ -18,12 +18,15 @@ use Rattle.bits.specs.Choice.{firstOf}
 use Rattle.bits.specs.Str.{bytesBits}
 use Rattle.bits.proofs.Strings.{sameB-eq}
 use Rattle.bits.proofs.Packed.{length-bytesBits, bytesBits-inj}
+use Rattle.cipher.specs.Cipher.{Cipher}
+use Rattle.cipher.specs.Ciphers.{cipherAt}
+use Rattle.cipher.proofs.Laws.{sm4-width}
 use Rattle.mac.specs.Padding.{methodAt}
 use Rattle.mac.specs.Algorithm.{algorithmAt}
 use Rattle.mac.specs.Tag.{bitsOf, tagBytes}
 use Rattle.mac.proofs.OneBlock.{Apart}
 use Rattle.mac.proofs.TagBytes.{tagBytes-fit}
-use Rattle.mac.proofs.Sm4.{fullBytes, sm4-one-block-differs-bytes}
+use Rattle.mac.proofs.Promised.{Promised, fullBytes, promised-at}
 use Rattle.settings.specs.Keys.{keysOf}
 use Rattle.tag.specs.OneCall.{tagAt}
 use Rattle.fields.specs.Field.{lengthOf, value}
@@ -143,15 +146,17 @@ module _ (s t keys : List ℕ) (fits : Bytewise s) (fitt : Bytewise t) (yes-s : 
       ∙ sym (covered-then-seal t (good t keys fitt yes-t .fields))
 
   -- the seal of a slip under t's settings at full length, as demand 3 speaks of it
-  full-seal : (x : List ℕ) → sealDefined (algorithmNamed t) (paddingNamed t) 128 x keys ≡ fullBytes (algorithmAt (algorithmNamed t)) (methodAt (paddingNamed t)) (keysOf keys) (bytesBits (covered x))
+  full-seal : (x : List ℕ) → sealDefined (algorithmNamed t) (paddingNamed t) 128 x keys ≡ fullBytes (cipherAt 1) (algorithmAt (algorithmNamed t)) (methodAt (paddingNamed t)) (keysOf keys) (bytesBits (covered x))
   unfolding sealDefined tagAt bitsOf
-  full-seal x = ap (fullBytes (algorithmAt (algorithmNamed t)) (methodAt (paddingNamed t)) (keysOf keys)) (take-all (8 * length (covered x)) (bytesBits (covered x)) (omega (arith, length-bytesBits (covered x))))
+  full-seal x =
+      ap (λ (m : ℕ). sealDefined (algorithmNamed t) (paddingNamed t) m x keys) (sym sm4-width)
+      ∙ ap (fullBytes (cipherAt 1) (algorithmAt (algorithmNamed t)) (methodAt (paddingNamed t)) (keysOf keys)) (take-all (8 * length (covered x)) (bytesBits (covered x)) (omega (arith, length-bytesBits (covered x))))
 
   pub seals-differ : mNamed t ≡ 128 → (j : ℕ) → Apart 128 j (bytesBits (covered s)) (bytesBits (covered t)) → ¬ (s ≡ t) → ¬ (tagNamed s ≡ tagNamed t)
   seals-differ full j h differ e =
       let long : length (covered s) ≡ length (covered t) = omega (arith, h .same-length, length-bytesBits (covered s), length-bytesBits (covered t)) in
       let of-s : tagNamed s ≡ sealDefined (algorithmNamed t) (paddingNamed t) 128 s keys = tag-defined s keys fits yes-s ∙ rw (same-a, same-p, same-m, full) refl in
       let of-t : tagNamed t ≡ sealDefined (algorithmNamed t) (paddingNamed t) 128 t keys = tag-defined t keys fitt yes-t ∙ ap (λ (m : ℕ). sealDefined (algorithmNamed t) (paddingNamed t) m t keys) full in
-      sm4-one-block-differs-bytes (algorithmAt (algorithmNamed t)) (methodAt (paddingNamed t)) (keysOf keys) j (bytesBits (covered s)) (bytesBits (covered t)) h
+      promised-at 1 (algorithmAt (algorithmNamed t)) (methodAt (paddingNamed t)) (keysOf keys) .differs-bytes j (bytesBits (covered s)) (bytesBits (covered t)) (subst (λ (k : ℕ). Apart k j (bytesBits (covered s)) (bytesBits (covered t))) (sym sm4-width) h)
       (λ same. differ (equal-slips (bytesBits-inj (covered s) (covered t) (fit-covered s fits) (fit-covered t fitt) long same)))
       (sym (full-seal s) ∙ sym of-s ∙ e ∙ of-t ∙ full-seal t)

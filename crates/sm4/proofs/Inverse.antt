@@ -99,7 +99,7 @@ flat-quad b h =
 pub flat-loaded : (x b : List ℕ) → length b ≡ 16 → four (words x) ≡ quad (bytesBits b) → flat (four (words x)) ≡ bytesBits b
 flat-loaded x b h e = ap flat e ∙ flat-quad (bytesBits b) (omega (arith, length-bytesBits b))
 
-length-flat : (X : Quad) → Long X → length (flat X) ≡ 128
+pub length-flat : (X : Quad) → Long X → length (flat X) ≡ 128
 unfolding flat
 length-flat X h = simp (length-append, h .l0, h .l1, h .l2, h .l3)
 

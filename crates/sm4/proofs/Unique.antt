@@ -47,7 +47,7 @@ same-four {x} {y} {Q} hx hy p q =
     at : (i : ℕ) → bitsN 32 (getD x i 0) ≡ bitsN 32 (getD y i 0) → getD x i 0 ≡ getD y i 0
     at i = bitsN-inj 32 (getD x i 0) (getD y i 0) (hx .each i .fits) (hy .each i .fits)
 
-same-flat : {x y : List ℕ} {w : Bits} → Words 4 x → Words 4 y → flat (four (words x)) ≡ w → flat (four (words y)) ≡ w → x ≡ y
+pub same-flat : {x y : List ℕ} {w : Bits} → Words 4 x → Words 4 y → flat (four (words x)) ≡ w → flat (four (words y)) ≡ w → x ≡ y
 same-flat {x} {y} {w} hx hy p q = same-four hx hy (back x hx p) (back y hy q)
   where
     back : (z : List ℕ) → Words 4 z → flat (four (words z)) ≡ w → four (words z) ≡ quad w

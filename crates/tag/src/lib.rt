@@ -3,7 +3,8 @@ ghost use mathlib.Core.Path.{_≡_};
 ghost use Prim.Native.Nat.{_≤_, _<_};
 ghost use lib.ListN.{length};
 ghost use Rattle.bits.specs.Choice.{firstOf};
-ghost use Rattle.bits.specs.Str.{bytesBits, filled};
+ghost use Rattle.bits.specs.Str.{bytesBits};
+ghost use Rattle.block.specs.Block.{storage, filledBlock};
 ghost use Rattle.mac.specs.Tag.{bytesFor};
 ghost use Rattle.settings.specs.Keys.{keyBits};
 ghost use Rattle.tag.specs.OneCall.{lengthWrong, tooManyBits, tooFewBlocks, roomShort, tagLengthWrong, messageFaults, tagAt, makeOf, checkOf, madeUnder, checkedUnder};
@@ -36,7 +37,7 @@ pub fn too_few_blocks(algorithm: usize, padding: usize, bits: usize) -> bool
     ensures { λ r. ⌜ r ≡ tooFewBlocks algorithm padding bits ⌝ }
 {
     if algorithm == 4 {
-        return mac::block_count(padding, bits) < 2;
+        return mac::block_count(cipher::SM4, padding, bits) < 2;
     }
     false
 }
@@ -81,22 +82,32 @@ fn tag_block(
     bits: usize,
 ) -> [u8; 16]
     requires { ⌜ (bits ≤ 8388608) × (length (now message) ≡ bytesFor bits) ⌝ }
-    ensures { λ r. ⌜ bytesBits r ≡ filled 128 (tagAt (s .algorithm) (s .padding) (s .m) (keyBits keys) (now (message .entry)) bits) ⌝ }
+    ensures { λ r. ⌜ bytesBits r ≡ filledBlock (tagAt (s .algorithm) (s .padding) (s .m) (keyBits keys) (now (message .entry)) bits) ⌝ }
 {
     let algorithm = s.algorithm;
     let padding = s.padding;
     let k = keys.k;
     let k1 = keys.k1;
     let k2 = keys.k2;
-    let t = sm4::table();
-    let rounds = chain::expand(&t, algorithm, k, k1, k2);
-    let begun = chain::begin(&t, algorithm, padding, rounds, bits as u32);
+    let t = cipher::table(cipher::SM4);
+    let rounds = chain::expand(&t, cipher::SM4, algorithm, k, k1, k2);
+    let begun = chain::begin(&t, cipher::SM4, algorithm, padding, rounds, bits as u32);
     let fresh = chain::Hold {
         chain: begun,
         held: [0u8; 16],
     };
-    let fed = chain::feed(&t, algorithm, padding, rounds, fresh, 0, message, bits);
-    chain::close(&t, algorithm, padding, s.m, rounds, fed, bits)
+    let fed = chain::feed(
+        &t,
+        cipher::SM4,
+        algorithm,
+        padding,
+        rounds,
+        fresh,
+        0,
+        message,
+        bits,
+    );
+    chain::close(&t, cipher::SM4, algorithm, padding, s.m, rounds, fed, bits)
 }
 
 // A tag made under sound settings, or refusals 7 to 10.
@@ -107,7 +118,7 @@ fn made(
     bits: usize,
     room: &mut [u8],
 ) -> settings::Answer
-    requires { ⌜ (0 < s .m) × (s .m ≤ 128) ⌝ }
+    requires { ⌜ (0 < s .m) × (s .m ≤ storage) ⌝ }
     ensures { λ r. ⌜ (r, now (room .exit)) ≡ madeUnder (s .algorithm) (s .padding) (s .m) (keyBits keys) (now (message .entry)) bits (now (room .entry)) ⌝ }
 {
     let algorithm = s.algorithm;
@@ -125,7 +136,7 @@ fn made(
     }
     let made = tag_block(s, keys, message, bits);
     block::put(made, bytes_for(m), room);
-    settings::Answer::Made(chain::calls(algorithm, padding, bits))
+    settings::Answer::Made(chain::calls(cipher::SM4, algorithm, padding, bits))
 }
 
 // Makes the tag of a message's first bits into the first bytes of the room.
@@ -156,7 +167,7 @@ fn checked(
     bits: usize,
     tag: &[u8],
 ) -> settings::Answer
-    requires { ⌜ (0 < s .m) × (s .m ≤ 128) ⌝ }
+    requires { ⌜ (0 < s .m) × (s .m ≤ storage) ⌝ }
     ensures { λ r. ⌜ r ≡ checkedUnder (s .algorithm) (s .padding) (s .m) (keyBits keys) (now (message .entry)) bits (now (tag .entry)) ⌝ }
 {
     let algorithm = s.algorithm;
@@ -173,7 +184,7 @@ fn checked(
         return settings::Answer::Refused(no);
     }
     let made = tag_block(s, keys, message, bits);
-    let calls = chain::calls(algorithm, padding, bits);
+    let calls = chain::calls(cipher::SM4, algorithm, padding, bits);
     let n = bytes_for(m);
     if block::equal_bytes(tag, &made[..n]) {
         return settings::Answer::Yes(calls);

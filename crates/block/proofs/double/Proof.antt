@@ -1,12 +1,16 @@
--- `double` meets its contract: a window shifts by one, and the first byte's highest bit decides on the reduction (`double-low`, `double-high`).
+-- `double` meets its contract: the first byte tells the bit that is shifted out (`double-low`, `double-high`).
 -- Assumes nothing.
 use lib.ListN.{getD}
 use mir.Val.{Fits}
 use mir.Syntax.{w8}
-use Rattle.block.proofs.Windows.{blank, reduction, double-low, double-high}
+use Rattle.block.proofs.Windows.{blank}
+use Rattle.block.proofs.Widths.{double-low, double-high}
 use borrow.Author.Needs.{needs}
 use Rattle.block.proofs.double.Statement.{statement}
 use Rattle.block.proofs.double.Tie as tie
+
+leftmost-requires : tie.Need-leftmost-requires
+leftmost-requires c κs = search needs
 
 window-requires : tie.Need-window-requires
 window-requires c κs = search needs
@@ -16,17 +20,34 @@ array-read-if1 c = search needs
 
 returns : tie.Need-returns
 unfolding blank
-returns c = double-low (c .before .before .args .t1) _ (search needs) (c .before .window .ensures) (c .if1 .taken)
+returns c =
+    let start = c .before .before .before in
+    let a = start .args in
+    double-low (a .t1) (a .n) (search needs) (start .pre .1) (start .pre .0) (a .p) _ _ (c .before .before .leftmost .ensures) (c .before .window .ensures) (c .if1 .taken)
+
+number-requires : tie.Need-number-requires
+number-requires c κs = search needs
 
 xor-requires : tie.Need-xor-requires
 xor-requires c κs = search needs
 
 returns-2 : tie.Need-returns-2
-unfolding blank reduction
+unfolding blank
 returns-2 c =
-    let b = c .before .before .before .args .t1 in
-    let f : Fits w8 (getD b 0 0) = search needs in
-    double-high b _ (search needs) (c .before .before .window .ensures) _ (c .before .if1 .left) (f .fits) (c .xor .ensures)
+    let shifted = c .before .before .before in
+    let start = shifted .before .before in
+    let a = start .args in
+    let byte : Fits w8 (getD (a .t1) 0 0) = search needs in
+    double-high (a .t1) (a .n) (search needs) (start .pre .1) (start .pre .0) (a .p) _ _ (shifted .before .leftmost .ensures) (shifted .window .ensures) _ _ (c .before .before .if1 .left) (byte .fits) (c .before .number .ensures) (c .xor .ensures)
 
 pub double-spec : {M : Type 1} → statement M
-double-spec = tie.close (tie.spec window-requires array-read-if1 returns xor-requires returns-2)
+double-spec =
+    tie.close
+    (tie.spec
+    leftmost-requires
+    window-requires
+    array-read-if1
+    returns
+    number-requires
+    xor-requires
+    returns-2)

@@ -1,11 +1,11 @@
--- `turn_right` meets its contract: a window of the block beside itself, 127 bits in.
+-- `turn_right` meets its contract: the first n bits at a block's end, and a window 127 bits in (`turn-right-is`).
 -- Assumes nothing.
-use mathlib.Core.Path.{_≡_}
+use mathlib.Core.Path.{_≡_, ap, _∙_}
 use native.Mathlib.Omega.{arith}
 use lib.ListN.{length}
-use Rattle.bits.specs.Str.{bytesBits}
+use Rattle.bits.specs.Str.{bytesBits, leftmost, filled}
 use Rattle.bits.proofs.Packed.{length-bytesBits}
-use Rattle.block.proofs.Windows.{turn-right-is}
+use Rattle.block.proofs.Widths.{turn-right-is}
 use borrow.Author.Needs.{needs}
 use Rattle.block.proofs.turn_right.Statement.{statement}
 use Rattle.block.proofs.turn_right.Tie as tie
@@ -13,11 +13,21 @@ use Rattle.block.proofs.turn_right.Tie as tie
 window-requires : tie.Need-window-requires
 window-requires c κs = search needs
 
+window-requires-2 : tie.Need-window-requires-2
+window-requires-2 c κs = search needs
+
+leftmost-requires : tie.Need-leftmost-requires
+leftmost-requires c κs = search needs
+
 returns : tie.Need-returns
+unfolding leftmost
 returns c =
-    let a = c .before .args in
+    let start = c .before .before .before in
+    let a = start .args in
     let l : length (a .b) ≡ 16 = search needs in
-    turn-right-is (bytesBits (a .b)) _ (omega (arith, length-bytesBits (a .b))) (c .window .ensures)
+    c .leftmost .ensures
+    ∙ ap (filled 128) (turn-right-is (bytesBits (a .b)) (a .n) (omega (arith, length-bytesBits (a .b))) (start .pre .1) (start .pre .0) _ _ (c .before .before .window .ensures) (c .before .window2 .ensures))
 
 pub turn-right-spec : {M : Type 1} → statement M
-turn-right-spec = tie.close (tie.spec window-requires returns)
+turn-right-spec =
+    tie.close (tie.spec window-requires window-requires-2 leftmost-requires returns)

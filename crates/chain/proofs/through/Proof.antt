@@ -1,60 +1,91 @@
 -- `through` meets its contract. The loop's invariant: the blocks that are left lead from here to where all blocks lead from the
--- start, and they lie in the rest of the slice (`chained-turn`). The measure is how many are left.
+-- start, and they lie in the rest of the slice (`chained-turn`, `one-left`). The measure is how many are left.
 -- Assumes nothing.
 use mathlib.Core.Path.{_≡_, refl, sym, ap, _∙_}
-use Prim.Native.Nat.{ℕ, _≤_, _*_}
+use mathlib.Core.List.{List}
+use Prim.Native.Nat.{ℕ, _≤_, _<_, _*_, _/_}
 use native.Mathlib.Omega.{arith}
-use lib.ListN.{length, length-drop}
+use lib.ListN.{length, take, length-drop}
 use lib.Seq.{length-take-le}
 use borrow.Author.Needs.{needs}
 use Rattle.bits.specs.Str.{Bits, bytesBits, words}
-use Rattle.sm4.specs.Cipher.{flat, four, enc}
-use Rattle.sm4.proofs.Inverse.{flat-loaded}
+use Rattle.cipher.specs.Cipher.{Cipher}
+use Rattle.cipher.specs.Ciphers.{cipherAt, encAt, wordsBits}
+use Rattle.cipher.proofs.Laws.{width-at, first-load, first-absorb, first-store}
 use Rattle.chain.specs.Chain.{chained}
-use Rattle.chain.proofs.Feeding.{chained-turn, from-is}
+use Rattle.chain.proofs.Feeding.{one-left, chained-turn, from-is}
 use Rattle.chain.proofs.through.Statement.{statement}
 use Rattle.chain.proofs.through.Tie as tie
 
 abbrev Inv-loop : tie.InvT-loop
-Inv-loop t k bytes blocks w h₀ rest₀ left₀ h rest left = (chained (enc (words k)) left (flat (four (words h))) (bytesBits rest) ≡ chained (enc (words k)) blocks (flat (four (words h₀))) (bytesBits bytes)) × (16 * left ≤ length rest)
+Inv-loop t cipher k bytes blocks w size h₀ rest₀ left₀ h rest left =
+    let n = cipherAt cipher .n in
+    let f = encAt cipher (words k) in
+    (chained n f left (take n (wordsBits h)) (bytesBits rest) ≡ chained n f blocks (take n (wordsBits h₀)) (bytesBits bytes)) × (left * n ≤ 8 * length rest) × (length h ≡ 4)
 
 abbrev μ-loop : tie.MeasureT-loop
-μ-loop t k bytes blocks w h₀ rest₀ left₀ h rest left = left
+μ-loop t cipher k bytes blocks w size h₀ rest₀ left₀ h rest left = left
 
 returns : tie.Need-returns Inv-loop μ-loop
 unfolding chained
 returns c =
     let a = c .before .before .args in
+    let n = cipherAt (a .cipher) .n in
     let none : a .blocks ≡ 0 = search needs in
-    sym (ap (λ (n : ℕ). chained (enc (words (a .k))) n (bytesBits (a .t3)) (bytesBits (a .bytes .now))) none)
+    sym (ap (λ (q : ℕ). chained n (encAt (a .cipher) (words (a .k))) q (take n (bytesBits (a .start))) (bytesBits (a .bytes .now))) none)
 
 wide-requires : tie.Need-wide-requires Inv-loop μ-loop
 wide-requires c κs = search needs
 
-slice-aggregate-load : tie.Need-slice-aggregate-load Inv-loop μ-loop
-slice-aggregate-load c = search needs
+width-requires : tie.Need-width-requires Inv-loop μ-loop
+width-requires c κs = search needs
 
 load-requires : tie.Need-load-requires Inv-loop μ-loop
 load-requires c κs = search needs
 
 loop-holds : tie.Need-loop-holds Inv-loop μ-loop
-loop-holds c = (refl, search needs)
+loop-holds c = (refl, search needs, search needs)
+
+-- the code's block size in bytes, and that a block lies in the slice
+whole : (c w : ℕ) → w ≡ cipherAt c .n → cipherAt c .n ≡ 8 * (w / 8)
+whole c w e = omega (arith, width-at c)
+
+in-slice : (c w k : ℕ) (s : List ℕ) → w ≡ cipherAt c .n → 0 < k → k * cipherAt c .n ≤ 8 * length s → w / 8 ≤ length s
+in-slice c w k s e p h = omega (arith, whole c w e, one-left k (cipherAt c .n) (8 * length s) p h)
 
 slice-aggregate-absorb : tie.Need-slice-aggregate-absorb Inv-loop μ-loop
 slice-aggregate-absorb c =
     let at = c .before .before .before in
-    sym (length-take-le 16 (at .loop .rest .now) (omega arith))
+    let width = at .before .before .width in
+    let cipher = at .before .before .before .before .before .before .args .cipher in
+    let l = at .loop in
+    sym (length-take-le (width .result / 8) (l .rest .now) (in-slice cipher (width .result) (l .left) (l .rest .now) (width .ensures) (omega arith) (l .inv .1)))
 
 absorb-requires : tie.Need-absorb-requires Inv-loop μ-loop
 absorb-requires c κs =
     let at = c .before .before .before in
-    (search needs, search needs, length-take-le 16 (at .loop .rest .now) (omega arith))
+    let width = at .before .before .width in
+    let cipher = at .before .before .before .before .before .before .args .cipher in
+    let l = at .loop in
+    let size = whole cipher (width .result) (width .ensures) in
+    let fits = in-slice cipher (width .result) (l .left) (l .rest .now) (width .ensures) (omega arith) (l .inv .1) in
+    (search needs, search needs, ap (λ (k : ℕ). 8 * k) (length-take-le (width .result / 8) (l .rest .now) fits) ∙ sym size)
 
 sub-rest : tie.Need-sub-rest Inv-loop μ-loop
-sub-rest c = omega arith
+sub-rest c =
+    let at = c .before .before .before .before in
+    let width = at .before .before .width in
+    let cipher = at .before .before .before .before .before .before .args .cipher in
+    let l = at .loop in
+    omega (arith, in-slice cipher (width .result) (l .left) (l .rest .now) (width .ensures) (omega arith) (l .inv .1))
 
 part-rest-start : tie.Need-part-rest-start Inv-loop μ-loop
-part-rest-start c = omega arith
+part-rest-start c =
+    let at = c .before .before .before .before in
+    let width = at .before .before .width in
+    let cipher = at .before .before .before .before .before .before .args .cipher in
+    let l = at .loop in
+    omega (arith, in-slice cipher (width .result) (l .left) (l .rest .now) (width .ensures) (omega arith) (l .inv .1))
 
 part-rest-end : tie.Need-part-rest-end Inv-loop μ-loop
 part-rest-end c = omega arith
@@ -68,11 +99,20 @@ loop-less c = omega arith
 loop-again : tie.Need-loop-again Inv-loop μ-loop
 loop-again c =
     let at = c .before .before .before .before .before in
+    let width = at .before .before .width in
+    let a = at .before .before .before .before .before .before .args in
     let l = at .loop in
-    let f = enc (words (at .before .before .before .before .before .before .args .k)) in
-    let t = from-is 16 (l .rest .now) in
-    let e = c .before .absorb .ensures in
-    (rw (t, e) (chained-turn f (l .left) (flat (four (words (l .h)))) (l .rest .now) (omega arith) (omega arith) ∙ l .inv .0), rw t (simp length-drop (omega arith)))
+    let n = cipherAt (a .cipher) .n in
+    let size = whole (a .cipher) (width .result) (width .ensures) in
+    let fits = in-slice (a .cipher) (width .result) (l .left) (l .rest .now) (width .ensures) (omega arith) (l .inv .1) in
+    let others = one-left (l .left) n (8 * length (l .rest .now)) (omega arith) (l .inv .1) .1 in
+    let part = length-take-le (width .result / 8) (l .rest .now) fits in
+    let t = from-is (width .result / 8) (l .rest .now) in
+    let e = first-absorb (a .cipher) (l .h) (l .inv .2) (words (a .k)) (take (width .result / 8) (l .rest .now)) _ (omega (arith, part, size)) (c .before .absorb .ensures) in (
+      rw (t, e) (chained-turn n (encAt (a .cipher) (words (a .k))) (l .left) (width .result / 8) (take n (wordsBits (l .h))) (l .rest .now) size (omega arith) ∙ l .inv .0),
+      rw t (simp length-drop (omega (arith, size, fits, others))),
+      search needs,
+    )
 
 store-requires : tie.Need-store-requires Inv-loop μ-loop
 store-requires c κs = search needs
@@ -82,11 +122,11 @@ unfolding chained
 returns-2 c =
     let at = c .before .before in
     let a = at .before .before .before .before .before .before .args in
+    let n = cipherAt (a .cipher) .n in
     let z : at .loop .left ≡ 0 = omega arith in
-    let sixteen : length (a .t3) ≡ 16 = search needs in
-    let start = flat-loaded _ (a .t3) sixteen (at .before .load .ensures) in
-    c .store .ensures ∙ (rw z at (at .loop .inv .0))
-    ∙ ap (λ (h : Bits). chained (enc (words (a .k))) (a .blocks) h (bytesBits (a .bytes .now))) start
+    let sixteen : length (a .start) ≡ 16 = search needs in
+    first-store (a .cipher) (at .loop .h) (at .loop .inv .2) _ (c .store .ensures) ∙ rw z at (at .loop .inv .0)
+    ∙ ap (λ (h : Bits). chained n (encAt (a .cipher) (words (a .k))) (a .blocks) h (bytesBits (a .bytes .now))) (first-load (a .cipher) (a .start) _ sixteen (at .before .load .ensures))
 
 pub through-spec : {M : Type 1} → statement M
 through-spec =
@@ -96,7 +136,7 @@ through-spec =
     μ-loop
     returns
     wide-requires
-    slice-aggregate-load
+    width-requires
     load-requires
     loop-holds
     slice-aggregate-absorb

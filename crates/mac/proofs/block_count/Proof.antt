@@ -1,41 +1,77 @@
--- `block_count` meets its contract: the closed form of q for each padding number (`count-two`, `count-three`, `count-other`).
+-- `block_count` meets its contract: the closed form of q for each padding number (`count-two`, `count-three`, `count-other`) at
+-- the cipher's width, in blocks so large that their count plus one fits (`eighth`).
 -- Assumes nothing.
 use mathlib.Core.Path.{sym, ap, _∙_}
-use Prim.Native.Nat.{suc, _/_}
+use Prim.Native.Nat.{ℕ, suc, _-_, _/_, _≤_, _<_}
 use native.Mathlib.Omega.{arith}
 use native.Mathlib.Numerals.{add-one}
-use Rattle.mac.proofs.Padded.{needed, count-two, count-three, count-other}
+use Rattle.cipher.specs.Cipher.{Cipher}
+use Rattle.cipher.specs.Ciphers.{cipherAt}
+use Rattle.cipher.proofs.Widths.{Width}
+use Rattle.cipher.proofs.Laws.{width-at}
+use Rattle.mac.proofs.Padded.{needed, count-two, count-three, count-other, eighth}
 use borrow.Author.Needs.{needs}
 use Rattle.mac.proofs.block_count.Statement.{statement}
 use Rattle.mac.proofs.block_count.Tie as tie
 
+a-byte : (c : ℕ) → 8 ≤ cipherAt c .n
+a-byte c = let W = width-at c in omega (arith, W .whole, W .some)
+
+some : (c : ℕ) → 0 < cipherAt c .n
+some c = omega (arith, a-byte c)
+
+width-requires : tie.Need-width-requires
+width-requires c κs = search needs
+
+div-result : tie.Need-div-result
+div-result c = omega (arith, some (c .before .before .args .cipher), c .width .ensures)
+
 add-result : tie.Need-add-result
-add-result c = search needs
+add-result c =
+    let a = c .before .before .args in
+    omega (arith, eighth (c .width .result) (a .bits) (omega (arith, a-byte (a .cipher), c .width .ensures)))
 
 returns : tie.Need-returns
-returns c = let a = c .before .args in add-one (a .bits / 128) ∙ sym (count-two 128 (a .bits) (omega arith) (a .padding) (c .if1 .taken))
+returns c =
+    let a = c .before .before .args in
+    let n = cipherAt (a .cipher) .n in
+    add-one (a .bits / c .width .result) ∙ ap (λ (k : ℕ). suc (a .bits / k)) (c .width .ensures)
+    ∙ sym (count-two n (a .bits) (some (a .cipher)) (a .padding) (c .before .if1 .taken))
 
 holding-requires : tie.Need-holding-requires
 holding-requires c κs = search needs
 
 add-result-2 : tie.Need-add-result-2
-add-result-2 c = search needs
+add-result-2 c =
+    let a = c .before .before .before .args in
+    let n = cipherAt (a .cipher) .n in
+    omega (arith, c .holding .ensures, eighth n (a .bits - 1) (a-byte (a .cipher)))
 
 returns-2 : tie.Need-returns-2
 unfolding needed
-returns-2 c = let a = c .before .before .before .args in add-one (c .holding .result) ∙ ap suc (c .holding .ensures) ∙ sym (count-three 128 (a .bits) (omega arith) (a .padding) (c .before .if2 .taken))
+returns-2 c =
+    let a = c .before .before .before .args in
+    let n = cipherAt (a .cipher) .n in
+    add-one (c .holding .result) ∙ ap suc (c .holding .ensures)
+    ∙ sym (count-three n (a .bits) (some (a .cipher)) (a .padding) (c .before .if2 .taken))
 
 holding-requires-2 : tie.Need-holding-requires-2
 holding-requires-2 c κs = search needs
 
 returns-3 : tie.Need-returns-3
 unfolding needed
-returns-3 c = let a = c .before .before .before .args in c .holding2 .ensures ∙ sym (count-other 128 (a .bits) (omega arith) (a .padding) (c .before .before .if1 .left) (c .before .if2 .left))
+returns-3 c =
+    let a = c .before .before .before .args in
+    let n = cipherAt (a .cipher) .n in
+    c .holding2 .ensures
+    ∙ sym (count-other n (a .bits) (some (a .cipher)) (a .padding) (c .before .before .if1 .left) (c .before .if2 .left))
 
 pub block-count-spec : {M : Type 1} → statement M
 block-count-spec =
     tie.close
     (tie.spec
+    width-requires
+    div-result
     add-result
     returns
     holding-requires

@@ -28,7 +28,7 @@ unfolding sessionBits freshOf blank
 returns c =
     let at = c .before .before .before .before .before .before .before .before in
     let a = at .args in
-    let value = c .begin .ensures (keys (bytesBits (a .u .k)) (bytesBits (a .u .k1))) (expands _ _ _ _ (a .u) (at .pre .1) (c .before .before .expand .ensures)) in
+    let value = c .begin .ensures (keys (bytesBits (a .u .k)) (bytesBits (a .u .k1))) (expands _ _ _ _ (a .u) (search needs) (search needs) (search needs) (at .pre .1) (c .before .before .expand .ensures)) in
     λ i. record {
       phase = Edge;
       algorithm = a .algorithm;
