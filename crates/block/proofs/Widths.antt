@@ -19,7 +19,7 @@ use Rattle.block.proofs.Windows.{blank, blank-bits}
 -- ---- filled strings
 
 -- zeros at the end do not show
-pub filled-zeros : (u : Bits) (k : ℕ) → length u + k ≤ 128 → filled 128 (u ++ zeros k) ≡ filled 128 u
+filled-zeros : (u : Bits) (k : ℕ) → length u + k ≤ 128 → filled 128 (u ++ zeros k) ≡ filled 128 u
 unfolding filled
 filled-zeros u k h =
     append-assoc u (zeros k) (zeros (128 - length (u ++ zeros k)))
@@ -120,7 +120,7 @@ module _ (B : Bits) (n : ℕ) (hB : length B ≡ 128) (hn : n ≤ 128) where
     unfolding leftmost shiftl
     shifted u w eu ew = window-filled 1 u w pos eu ew ∙ sym (filled-zeros (drop 1 (take n B)) 1 (omega (arith, length-drop 1 (take n B), long)))
 
-    pub reduced : (w v r : Bits) (c : ℕ) → w ≡ filled 128 (shiftl (take n B)) → v ≡ filled 128 (bitsN n c) → r ≡ xorB w v
+    reduced : (w v r : Bits) (c : ℕ) → w ≡ filled 128 (shiftl (take n B)) → v ≡ filled 128 (bitsN n c) → r ≡ xorB w v
         → r ≡ filled 128 (xorB (shiftl (take n B)) (bitsN (length (take n B)) c))
     reduced w v r c ew ev er =
         er ∙ ap₂ xorB ew (ev ∙ ap (λ (k : ℕ). filled 128 (bitsN k c)) (sym long))

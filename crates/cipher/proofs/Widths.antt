@@ -21,7 +21,7 @@ unfolding filled
 take-filled n w h = take-at w (zeros (128 - length w)) n h
 
 -- at 128 bits all count, and nothing is filled up
-pub filled-all : (w : Bits) → length w ≡ 128 → filled 128 w ≡ w
+filled-all : (w : Bits) → length w ≡ 128 → filled 128 w ≡ w
 unfolding filled zeros
 filled-all w h = let none : 128 - length w ≡ 0 = omega arith in ap (λ (k : ℕ). w ++ zeros k) none ∙ append-nil w
 

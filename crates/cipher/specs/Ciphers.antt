@@ -12,7 +12,7 @@ use Rattle.cipher.specs.Cipher.{Cipher}
 abbrev pub sm4 : Cipher
 sm4 = record { n = 128; keyWidth = 128; encrypt = encrypted; decrypt = decrypted; poly = 0x87 }
 
--- by its number; SM4 is number 1, and where no cipher has the number
+-- by its number: SM4 is number 1, and stands for every number that no cipher has
 unfoldable pub cipherAt : ℕ → Cipher
 cipherAt c = sm4
 

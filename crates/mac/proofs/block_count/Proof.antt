@@ -2,13 +2,13 @@
 -- the cipher's width, in blocks so large that their count plus one fits (`eighth`).
 -- Assumes nothing.
 use mathlib.Core.Path.{sym, ap, _∙_}
-use Prim.Native.Nat.{ℕ, suc, _-_, _/_, _≤_, _<_}
+use Prim.Native.Nat.{ℕ, suc, _-_, _/_, _≤_}
 use native.Mathlib.Omega.{arith}
 use native.Mathlib.Numerals.{add-one}
-use Rattle.cipher.specs.Cipher.{Cipher}
+use Rattle.cipher.specs.Cipher.{Cipher, Lawful}
 use Rattle.cipher.specs.Ciphers.{cipherAt}
 use Rattle.cipher.proofs.Widths.{Width}
-use Rattle.cipher.proofs.Laws.{width-at}
+use Rattle.cipher.proofs.Laws.{width-at, lawful-at}
 use Rattle.mac.proofs.Padded.{needed, count-two, count-three, count-other, eighth}
 use borrow.Author.Needs.{needs}
 use Rattle.mac.proofs.block_count.Statement.{statement}
@@ -17,14 +17,11 @@ use Rattle.mac.proofs.block_count.Tie as tie
 a-byte : (c : ℕ) → 8 ≤ cipherAt c .n
 a-byte c = let W = width-at c in omega (arith, W .whole, W .some)
 
-some : (c : ℕ) → 0 < cipherAt c .n
-some c = omega (arith, a-byte c)
-
 width-requires : tie.Need-width-requires
 width-requires c κs = search needs
 
 div-result : tie.Need-div-result
-div-result c = omega (arith, some (c .before .before .args .cipher), c .width .ensures)
+div-result c = omega (arith, lawful-at (c .before .before .args .cipher) .wide, c .width .ensures)
 
 add-result : tie.Need-add-result
 add-result c =
@@ -36,7 +33,7 @@ returns c =
     let a = c .before .before .args in
     let n = cipherAt (a .cipher) .n in
     add-one (a .bits / c .width .result) ∙ ap (λ (k : ℕ). suc (a .bits / k)) (c .width .ensures)
-    ∙ sym (count-two n (a .bits) (some (a .cipher)) (a .padding) (c .before .if1 .taken))
+    ∙ sym (count-two n (a .bits) (lawful-at (a .cipher) .wide) (a .padding) (c .before .if1 .taken))
 
 holding-requires : tie.Need-holding-requires
 holding-requires c κs = search needs
@@ -53,7 +50,7 @@ returns-2 c =
     let a = c .before .before .before .args in
     let n = cipherAt (a .cipher) .n in
     add-one (c .holding .result) ∙ ap suc (c .holding .ensures)
-    ∙ sym (count-three n (a .bits) (some (a .cipher)) (a .padding) (c .before .if2 .taken))
+    ∙ sym (count-three n (a .bits) (lawful-at (a .cipher) .wide) (a .padding) (c .before .if2 .taken))
 
 holding-requires-2 : tie.Need-holding-requires-2
 holding-requires-2 c κs = search needs
@@ -64,7 +61,7 @@ returns-3 c =
     let a = c .before .before .before .args in
     let n = cipherAt (a .cipher) .n in
     c .holding2 .ensures
-    ∙ sym (count-other n (a .bits) (some (a .cipher)) (a .padding) (c .before .before .if1 .left) (c .before .if2 .left))
+    ∙ sym (count-other n (a .bits) (lawful-at (a .cipher) .wide) (a .padding) (c .before .before .if1 .left) (c .before .if2 .left))
 
 pub block-count-spec : {M : Type 1} → statement M
 block-count-spec =
