@@ -1,11 +1,13 @@
 -- A refusal is given exactly when its fault is there and none before it is: of every list of faults, in both directions.
 -- Assumes nothing.
-use mathlib.Core.Path.{_≡_, refl, sym}
+use mathlib.Core.Path.{_≡_, refl, sym, ap, ap₂, _∙_}
 use mathlib.Core.Bool.{Bool, true, false}
 use mathlib.Core.List.{List, [], _∷_, _++_}
-use Prim.Native.Nat.{ℕ, _<_}
+use Prim.Native.Nat.{ℕ, suc, _+_, _<_}
 use native.Mathlib.Omega.{arith}
-use Rattle.bits.specs.Choice.{pick, Fault, _given_, firstOf}
+use lib.ListN.{length, drop, getD}
+use lib.Seq.{drop-cons}
+use Rattle.bits.specs.Choice.{pick, Fault, _given_, firstOf, faults}
 
 -- the fault of number n is there, and none before it
 pub data Given (n : ℕ) : List Fault → Type 0 where
@@ -87,3 +89,20 @@ unfolding firstOf pick
 every-first z all = z
 every-first z (with {b = true} h p) = h
 every-first z (with {b = false} h p) = every-first z p
+
+-- numbers and tests from place i on: the test there, or one after it
+pub first-at : (ns : List ℕ) (bs : List Bool) (i : ℕ) → i < length ns → i < length bs
+    → firstOf (faults (drop i ns) (drop i bs)) ≡ pick (getD bs i false) (getD ns i 0) (firstOf (faults (drop (i + 1) ns) (drop (i + 1) bs)))
+unfolding faults firstOf
+first-at ns bs i h l =
+    let next : suc i ≡ i + 1 = omega arith in
+    ap₂ (λ (xs : List ℕ) (ys : List Bool). firstOf (faults xs ys)) (drop-cons ns i 0 h ∙ ap (λ (k : ℕ). getD ns i 0 ∷ drop k ns) next) (drop-cons bs i false l ∙ ap (λ (k : ℕ). getD bs i false ∷ drop k bs) next)
+
+pub faults-unnumbered : (bs : List Bool) → firstOf (faults [] bs) ≡ 0
+unfolding faults firstOf
+faults-unnumbered bs = refl
+
+pub faults-untested : (ns : List ℕ) → firstOf (faults ns []) ≡ 0
+unfolding faults firstOf
+faults-untested [] = refl
+faults-untested (n ∷ ns) = refl

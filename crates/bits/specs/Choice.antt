@@ -18,3 +18,9 @@ pub data Fault : Type 0 where
 unfoldable pub firstOf : List Fault → ℕ
 firstOf [] = 0
 firstOf (n given b ∷ fs) = pick b n (firstOf fs)
+
+-- numbers and tests, one with the other
+unfoldable pub faults : List ℕ → List Bool → List Fault
+faults [] bs = []
+faults (n ∷ ns) [] = []
+faults (n ∷ ns) (b ∷ bs) = n given b ∷ faults ns bs

@@ -13,7 +13,7 @@ use borrow.Fn.Kinds.{resT, In, Out, Dens, GoodsP, endedOf, stays}
 
 -- an answer to a call at the arguments a: the result, what stands in each lent buffer at the end, that both are values of
 -- their types, and what the contract ensures of them. It is what a caller is told
-pub record Answer {n : ℕ} (ps : List (PK n)) (r : RK n) (Q : Out n ps r) (κs : Lfts n) (a : Dens κs ps) : Type 0 where
+pub record Allowed {n : ℕ} (ps : List (PK n)) (r : RK n) (Q : Out n ps r) (κs : Lfts n) (a : Dens κs ps) : Type 0 where
   pub result : resT r κs .Denot
   pub last : Lasts (endedOf n ps r) κs a
   pub ok : r .is .Ok κs result
@@ -24,8 +24,8 @@ module _ {n : ℕ} (ps : List (PK n)) (r : RK n) (P : In n ps) (Q : Out n ps r) 
   -- two answers at the same arguments, for which what the contract requires holds, agree in what is seen of the result and
   -- in every lent buffer
   abbrev pub UniqueBy : {B : Type 0} → ((κs : Lfts n) → resT r κs .Denot → B) → Type 0
-  UniqueBy see = (κs : Lfts n) (a : Dens κs ps) → GoodsP κs ps a → P κs a → (x y : Answer ps r Q κs a) → (see κs (x .result) ≡ see κs (y .result)) × (x .last ≡ y .last)
+  UniqueBy see = (κs : Lfts n) (a : Dens κs ps) → GoodsP κs ps a → P κs a → (x y : Allowed ps r Q κs a) → (see κs (x .result) ≡ see κs (y .result)) × (x .last ≡ y .last)
 
   -- they are one
   abbrev pub Unique : Type 0
-  Unique = (κs : Lfts n) (a : Dens κs ps) → GoodsP κs ps a → P κs a → (x y : Answer ps r Q κs a) → (x .result ≡ y .result) × (x .last ≡ y .last)
+  Unique = (κs : Lfts n) (a : Dens κs ps) → GoodsP κs ps a → P κs a → (x y : Allowed ps r Q κs a) → (x .result ≡ y .result) × (x .last ≡ y .last)

@@ -1,9 +1,10 @@
-// Words and bytes by shifts and masks. Every contract is told in bits: which bits of the arguments stand where in the
-// result.
+// Words and bytes by shifts and masks: every contract is told in bits, which bits of the arguments stand where in the result. And
+// the first of several tests, by which every ordered list of refusals is answered.
 ghost use mathlib.Core.Path.{_≡_};
 ghost use mathlib.Core.List.{_∷_, [], _++_};
 ghost use Prim.Native.Nat.{_-_, _%_, _≤_};
 ghost use lib.ListN.{take, drop};
+ghost use Rattle.bits.specs.Choice.{firstOf, faults};
 ghost use Rattle.bits.specs.Str.{bitsN, bytesBits, rotl};
 
 // A word rotated left by r bits, r counted modulo 32.
@@ -47,4 +48,21 @@ pub fn funnel(x: u8, y: u8, s: u32) -> u8
         return y;
     }
     byte_of(word(x, y, 0, 0), 24 - s)
+}
+
+// The number of the first test that says yes; 0 where none does. A test without a number is not looked at.
+pub fn first(numbers: &[u8], there: &[bool]) -> usize
+    ensures { λ r. ⌜ r ≡ firstOf (faults (now (numbers .entry)) (now (there .entry))) ⌝ }
+{
+    let mut i = 0;
+    while i < there.len() {
+        if numbers.len() <= i {
+            return 0;
+        }
+        if there[i] {
+            return numbers[i] as usize;
+        }
+        i += 1;
+    }
+    0
 }

@@ -8,13 +8,13 @@ fn counted(what: &[u8], calls: usize) {
     print(b" calls");
 }
 
-pub(crate) fn print_answer(answer: settings::Answer) {
+pub(crate) fn print_answer(answer: settings::Outcome) {
     match answer {
-        settings::Answer::Accepted => print(b"accepted"),
-        settings::Answer::Made(calls) => counted(b"made ", calls),
-        settings::Answer::Yes(calls) => counted(b"yes ", calls),
-        settings::Answer::No(calls) => counted(b"no ", calls),
-        settings::Answer::Refused(no) => {
+        settings::Outcome::Accepted => print(b"accepted"),
+        settings::Outcome::Made(calls) => counted(b"made ", calls),
+        settings::Outcome::Yes(calls) => counted(b"yes ", calls),
+        settings::Outcome::No(calls) => counted(b"no ", calls),
+        settings::Outcome::Refused(no) => {
             print(b"refused ");
             words::print_number(no);
         }
@@ -22,8 +22,8 @@ pub(crate) fn print_answer(answer: settings::Answer) {
 }
 
 // The room's first bytes after a tag was made; after a refusal, whether each of its bytes is still what it was.
-pub(crate) fn print_room(answer: settings::Answer, size: usize, room: &[u8]) {
-    if let settings::Answer::Made(_) = answer {
+pub(crate) fn print_room(answer: settings::Outcome, size: usize, room: &[u8]) {
+    if let settings::Outcome::Made(_) = answer {
         print(b" ");
         words::print_bytes(words::first(room, size));
         return;

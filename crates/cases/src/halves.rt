@@ -10,9 +10,7 @@ pub(crate) fn run(line: &[u8]) {
     let mut tag = io::buffer();
     let tag_bytes = words::bytes(line, 6, &mut tag);
     let step = session::start(
-        words::number(line, 1),
-        words::number(line, 2),
-        words::number(line, 3),
+        words::agreement(line),
         words::first(&keys, key_bytes),
         bits(words::first(&message, message_bytes)),
     );
@@ -63,9 +61,9 @@ fn comes_out(begun: session::Session, one: &[u8], two: &[u8], tag: &[u8], calls:
     check::same(words::first(&room, tag.len()), tag)
 }
 
-fn is_made(answer: settings::Answer, calls: usize) -> bool {
+fn is_made(answer: settings::Outcome, calls: usize) -> bool {
     match answer {
-        settings::Answer::Made(reported) => reported == calls,
+        settings::Outcome::Made(reported) => reported == calls,
         _ => false,
     }
 }

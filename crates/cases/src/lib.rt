@@ -97,9 +97,7 @@ fn make(line: &[u8], size: usize, room: &mut [u8]) {
     let mut message = io::buffer();
     let message_bytes = words::bytes(line, 5, &mut message);
     let answer = tag::make(
-        words::number(line, 1),
-        words::number(line, 2),
-        words::number(line, 3),
+        words::agreement(line),
         words::first(&keys, key_bytes),
         words::first(&message, message_bytes),
         words::number(line, 6),
@@ -117,9 +115,7 @@ fn check(line: &[u8]) {
     let mut offered = io::buffer();
     let offered_bytes = words::bytes(line, 7, &mut offered);
     answers::print_answer(tag::check(
-        words::number(line, 1),
-        words::number(line, 2),
-        words::number(line, 3),
+        words::agreement(line),
         words::first(&keys, key_bytes),
         words::first(&message, message_bytes),
         words::number(line, 6),

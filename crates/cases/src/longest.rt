@@ -29,7 +29,12 @@ fn fed(first: session::Session, zeros: &[u8], bits: usize, pieces: usize) -> ses
 
 fn run_on(zeros: &[u8]) {
     let key = *b"\x01\x23\x45\x67\x89\xab\xcd\xef\xfe\xdc\xba\x98\x76\x54\x32\x10";
-    let begun = tell(b"start: ", session::start(1, 1, 128, &key, 0));
+    let agreed = settings::Agreement {
+        algorithm: 1,
+        padding: 1,
+        m: 128,
+    };
+    let begun = tell(b"start: ", session::start(agreed, &key, 0));
     let most = fed(begun, zeros, 524288, 15);
     print(b"15 pieces of 524288 bits: in all ");
     words::print_number(most.total);

@@ -10,17 +10,22 @@ pub(crate) struct State {
 }
 
 pub(crate) fn closed() -> State {
-    let shut = session::Session {
-        phase: session::Phase::Closed,
+    let agreement = settings::Agreement {
         algorithm: 0,
         padding: 0,
         m: 0,
+    };
+    let hold = chain::Hold {
+        value: [0u8; 16],
+        held: [0u8; 16],
+    };
+    let shut = session::Session {
+        phase: session::Phase::Closed,
+        agreement,
         declared: 0,
         total: 0,
-        k: [0u8; 16],
-        k1: [0u8; 16],
-        chain: [0u8; 16],
-        held: [0u8; 16],
+        keys: [0u8; 32],
+        hold,
     };
     State {
         session: shut,
@@ -54,9 +59,7 @@ fn start(line: &[u8], state: State) -> State {
     let mut keys = io::buffer();
     let key_bytes = words::bytes(line, 4, &mut keys);
     let step = session::start(
-        words::number(line, 1),
-        words::number(line, 2),
-        words::number(line, 3),
+        words::agreement(line),
         words::first(&keys, key_bytes),
         words::number(line, 5),
     );
@@ -93,26 +96,22 @@ fn finish(size: usize, state: State, room: &mut [u8]) -> State {
 // A record of any content.
 fn forged(line: &[u8]) -> session::Session {
     let phase = phase_of(words::number(line, 1), words::number(line, 2));
-    let algorithm = words::number(line, 3);
-    let padding = words::number(line, 4);
-    let m = words::number(line, 5);
-    let declared = words::number(line, 6);
-    let total = words::number(line, 7);
-    let k = words::block(line, 8);
-    let k1 = words::block(line, 9);
-    let chain = words::block(line, 10);
+    let agreement = settings::Agreement {
+        algorithm: words::number(line, 3),
+        padding: words::number(line, 4),
+        m: words::number(line, 5),
+    };
+    let keys = block::pair(words::block(line, 8), words::block(line, 9));
+    let value = words::block(line, 10);
     let held = words::block(line, 11);
+    let hold = chain::Hold { value, held };
     session::Session {
         phase,
-        algorithm,
-        padding,
-        m,
-        declared,
-        total,
-        k,
-        k1,
-        chain,
-        held,
+        agreement,
+        declared: words::number(line, 6),
+        total: words::number(line, 7),
+        keys,
+        hold,
     }
 }
 
@@ -172,25 +171,29 @@ fn same_phase(a: session::Phase, b: session::Phase) -> bool {
     part_of(a) == part_of(b)
 }
 
-fn same_blocks(a: session::Session, b: session::Session) -> bool {
-    let k_a = a.k;
-    let k_b = b.k;
-    if !block::equal(k_a, k_b) {
+fn same_agreement(a: settings::Agreement, b: settings::Agreement) -> bool {
+    if a.algorithm != b.algorithm {
         return false;
     }
-    let k1_a = a.k1;
-    let k1_b = b.k1;
-    if !block::equal(k1_a, k1_b) {
+    if a.padding != b.padding {
         return false;
     }
-    let chain_a = a.chain;
-    let chain_b = b.chain;
-    if !block::equal(chain_a, chain_b) {
+    a.m == b.m
+}
+
+fn same_hold(a: chain::Hold, b: chain::Hold) -> bool {
+    let value_a = a.value;
+    let value_b = b.value;
+    if !block::equal(value_a, value_b) {
         return false;
     }
     let held_a = a.held;
     let held_b = b.held;
     block::equal(held_a, held_b)
+}
+
+fn same_keys(a: [u8; 32], b: [u8; 32]) -> bool {
+    check::same(&a, &b)
 }
 
 // Whether two records agree in every field.
@@ -200,13 +203,9 @@ fn same(a: session::Session, b: session::Session) -> bool {
     if !same_phase(phase_a, phase_b) {
         return false;
     }
-    if a.algorithm != b.algorithm {
-        return false;
-    }
-    if a.padding != b.padding {
-        return false;
-    }
-    if a.m != b.m {
+    let agreement_a = a.agreement;
+    let agreement_b = b.agreement;
+    if !same_agreement(agreement_a, agreement_b) {
         return false;
     }
     if a.declared != b.declared {
@@ -215,5 +214,12 @@ fn same(a: session::Session, b: session::Session) -> bool {
     if a.total != b.total {
         return false;
     }
-    same_blocks(a, b)
+    let keys_a = a.keys;
+    let keys_b = b.keys;
+    if !same_keys(keys_a, keys_b) {
+        return false;
+    }
+    let hold_a = a.hold;
+    let hold_b = b.hold;
+    same_hold(hold_a, hold_b)
 }

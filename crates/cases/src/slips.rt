@@ -54,13 +54,14 @@ fn number(keys: &[u8], slip: &[u8]) -> usize {
     if read.number == 0 {
         return 0;
     }
-    let values = read.year
-        | read.month
-        | read.day
-        | read.amount
-        | read.calls
-        | read.place
-        | read.length;
+    let contents = read.contents;
+    let values = contents.year
+        | contents.month
+        | contents.day
+        | contents.amount
+        | contents.lot_at
+        | contents.lot_len
+        | read.calls;
     if values != 0 {
         return 31;
     }
@@ -73,7 +74,7 @@ fn number(keys: &[u8], slip: &[u8]) -> usize {
 fn print_read(keys: &[u8], slip: &[u8]) {
     let read = slip::read(slip, keys);
     if read.number == 0 {
-        print_accepted(read, slip::lot(slip, keys));
+        print_accepted(read.contents, slip::lot(slip, keys), read.calls);
         return;
     }
     print(b"refused ");
@@ -88,23 +89,23 @@ fn print_two_digits(n: usize) {
     words::print_number(n % 10);
 }
 
-fn print_accepted(read: slip::Slip, lot: &[u8]) {
+fn print_accepted(contents: slip::Contents, lot: &[u8], calls: usize) {
     print(b"accepted ");
-    words::print_number(read.year);
+    words::print_number(contents.year);
     print(b"-");
-    print_two_digits(read.month);
+    print_two_digits(contents.month);
     print(b"-");
-    print_two_digits(read.day);
+    print_two_digits(contents.day);
     print(b" lot ");
     print(lot);
     print(b" at ");
-    words::print_number(read.place);
+    words::print_number(contents.lot_at);
     print(b" length ");
-    words::print_number(read.length);
+    words::print_number(contents.lot_len);
     print(b" amount ");
-    words::print_number(read.amount);
+    words::print_number(contents.amount);
     print(b" calls ");
-    words::print_number(read.calls);
+    words::print_number(calls);
 }
 
 // ---- many slips

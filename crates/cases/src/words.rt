@@ -183,6 +183,15 @@ pub(crate) fn number(line: &[u8], before: usize) -> usize {
     }
 }
 
+// The agreement that the first three words after the command are.
+pub(crate) fn agreement(line: &[u8]) -> settings::Agreement {
+    settings::Agreement {
+        algorithm: number(line, 1),
+        padding: number(line, 2),
+        m: number(line, 3),
+    }
+}
+
 // Puts the bytes that a word of a line is into the room, as many as fit, and gives their number.
 pub(crate) fn bytes(line: &[u8], before: usize, room: &mut [u8]) -> usize {
     let word = word(line, before);

@@ -13,7 +13,6 @@ use Rattle.block.proofs.Windows.{blank, blank-bits}
 use Rattle.cipher.specs.Ciphers.{cipherAt}
 use Rattle.cipher.proofs.Widths.{take-filled, length-first}
 use Rattle.cipher.proofs.Laws.{width-at}
-use Rattle.cipher.specs.Cipher.{Cipher}
 
 pub first-xor : (n : ℕ) (a b r : List ℕ) → bytesBits r ≡ xorB (bytesBits a) (bytesBits b) → take n (bytesBits r) ≡ xorB (take n (bytesBits a)) (take n (bytesBits b))
 first-xor n a b r e = ap (take n) e ∙ take-xorB n (bytesBits a) (bytesBits b)

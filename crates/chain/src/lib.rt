@@ -11,24 +11,30 @@ ghost use lib.Dec.{eqb};
 ghost use Rattle.bits.specs.Choice.{pick};
 ghost use Rattle.bits.specs.Str.{bytesBits, words, xorB, zeros, rotl, rotr, double};
 ghost use Rattle.block.specs.Block.{filledBlock};
-ghost use Rattle.cipher.specs.Cipher.{Cipher};
 ghost use Rattle.cipher.specs.Ciphers.{cipherAt, tableAt, roundKeysAt, encAt, decAt};
 ghost use Rattle.mac.specs.Padding.{methodAt, suffix, blockCount, complete};
 ghost use Rattle.mac.specs.Algorithm.{algorithmAt, row, Keys, step};
 ghost use Rattle.mac.specs.Session.{absorb, finish, opened};
-ghost use Rattle.chain.specs.Chain.{roundsBits, roundsOf, keyBlocks, Expanded, Each, stepsAt, heldBits, begunAt, stateAt, holdBits, kept, chained, lastState, markOf};
+ghost use Rattle.chain.specs.Chain.{roundsBits, roundsOf, keyBlocks, Expanded, Each, widthOf, stepsOf, heldBits, begunAt, stateOf, holdOf, chained, lastState, markOf};
 
 // The round keys of K, K' and K''.
 pub struct Rounds {
-    pub k: [u32; 32],
-    pub k1: [u32; 32],
-    pub k2: [u32; 32],
+    pub first: [u32; 32],
+    pub second: [u32; 32],
+    pub third: [u32; 32],
 }
 
 // A chain value, and the block that waits.
 pub struct Hold {
-    pub chain: [u8; 16],
+    pub value: [u8; 16],
     pub held: [u8; 16],
+}
+
+// What a chain works under: the cipher's number, the settings and the round keys of the keys that they use.
+pub struct Keyed {
+    pub cipher: usize,
+    pub settings: settings::Settings,
+    pub rounds: Rounds,
 }
 
 // ---- round keys
@@ -44,25 +50,22 @@ fn expanded_where(t: &cipher::Table, cipher: usize, on: bool, key: [u8; 16]) -> 
     [0u32; 32]
 }
 
-// The round keys that an algorithm uses, of K, K' and K''.
-pub fn expand(
-    t: &cipher::Table,
-    cipher: usize,
-    algorithm: usize,
-    k: [u8; 16],
-    k1: [u8; 16],
-    k2: [u8; 16],
-) -> Rounds
+// The round keys of the keys that an algorithm uses.
+pub fn expand(t: &cipher::Table, cipher: usize, algorithm: usize, keys: keys::KeyBlocks) -> Rounds
     requires { ⌜ now t ≡ tableAt cipher ⌝ }
-    ensures { λ r. ⌜ roundsBits r ≡ roundsOf cipher algorithm (keyBlocks cipher k k1 k2) ⌝ }
+    ensures { λ r. ⌜ roundsBits r ≡ roundsOf cipher algorithm (keyBlocks cipher keys) ⌝ }
 {
-    let first = cipher::schedule(t, cipher, k);
-    let second = expanded_where(t, cipher, settings::two_keys(algorithm), k1);
-    let third = expanded_where(t, cipher, algorithm == 4, k2);
+    let row = mac::row_of(algorithm);
+    let first_key = keys.first;
+    let second_key = keys.second;
+    let third_key = keys.third;
+    let first = cipher::schedule(t, cipher, first_key);
+    let second = expanded_where(t, cipher, row.two, second_key);
+    let third = expanded_where(t, cipher, row.third, third_key);
     Rounds {
-        k: first,
-        k1: second,
-        k2: third,
+        first,
+        second,
+        third,
     }
 }
 
@@ -86,34 +89,27 @@ fn dec(t: &cipher::Table, cipher: usize, rk: [u32; 32], b: [u8; 16]) -> [u8; 16]
 
 // ---- blocks that are not the last
 
-// Whether a block goes through twice: the first of algorithm 4.
+// Whether a block goes through twice: the first where K'' is used.
 fn twice(algorithm: usize, begun: bool) -> bool
-    ensures { λ r. ⌜ r ≡ eqb algorithm 4 && not begun ⌝ }
+    ensures { λ r. ⌜ r ≡ row (algorithmAt algorithm) .third && not begun ⌝ }
 {
-    if algorithm == 4 {
+    let row = mac::row_of(algorithm);
+    if row.third {
         return !begun;
     }
     false
 }
 
 // A block that is not the last goes through.
-fn advance(
-    t: &cipher::Table,
-    cipher: usize,
-    algorithm: usize,
-    r: Rounds,
-    begun: bool,
-    h: [u8; 16],
-    b: [u8; 16],
-) -> [u8; 16]
-    requires { ⌜ now t ≡ tableAt cipher ⌝ }
-    ensures { λ v. ⌜ Each cipher algorithm r (λ K. take (cipherAt cipher .n) (bytesBits v) ≡ step (stepsAt cipher algorithm K) begun (xorB (take (cipherAt cipher .n) (bytesBits b)) (take (cipherAt cipher .n) (bytesBits h))) .out) ⌝ }
+fn advance(t: &cipher::Table, k: Keyed, begun: bool, h: [u8; 16], b: [u8; 16]) -> [u8; 16]
+    requires { ⌜ now t ≡ tableAt (k .cipher) ⌝ }
+    ensures { λ v. ⌜ Each k (λ K. take (widthOf k) (bytesBits v) ≡ step (stepsOf k K) begun (xorB (take (widthOf k) (bytesBits b)) (take (widthOf k) (bytesBits h))) .out) ⌝ }
 {
-    let k = r.k;
-    let x = enc(t, cipher, k, block::xor(b, h));
-    if twice(algorithm, begun) {
-        let k2 = r.k2;
-        return enc(t, cipher, k2, x);
+    let first = k.rounds.first;
+    let x = enc(t, k.cipher, first, block::xor(b, h));
+    if twice(k.settings.algorithm, begun) {
+        let third = k.rounds.third;
+        return enc(t, k.cipher, third, x);
     }
     x
 }
@@ -122,13 +118,13 @@ fn advance(
 fn through(
     t: &cipher::Table,
     cipher: usize,
-    k: [u32; 32],
+    rk: [u32; 32],
     start: [u8; 16],
     bytes: &[u8],
     blocks: usize,
 ) -> [u8; 16]
     requires { ⌜ (now t ≡ tableAt cipher) × (blocks * cipherAt cipher .n ≤ 8 * length (now bytes)) ⌝ }
-    ensures { λ v. ⌜ take (cipherAt cipher .n) (bytesBits v) ≡ chained (cipherAt cipher .n) (encAt cipher (words k)) blocks (take (cipherAt cipher .n) (bytesBits start)) (bytesBits (now (bytes .entry))) ⌝ }
+    ensures { λ v. ⌜ take (cipherAt cipher .n) (bytesBits v) ≡ chained (cipherAt cipher .n) (encAt cipher (words rk)) blocks (take (cipherAt cipher .n) (bytesBits start)) (bytesBits (now (bytes .entry))) ⌝ }
 {
     if blocks == 0 {
         return start;
@@ -139,7 +135,7 @@ fn through(
     let mut rest = bytes;
     let mut left = blocks;
     while 0 < left {
-        let next = cipher::absorb(t, &w, cipher, k, h, &rest[..size]);
+        let next = cipher::absorb(t, &w, cipher, rk, h, &rest[..size]);
         h = next;
         rest = &rest[size..];
         left -= 1;
@@ -171,185 +167,160 @@ fn begun_at(cipher: usize, padding: usize, total: usize) -> bool
 // Bits come in after total others: each block goes through that a bit stands after, and the rest waits.
 pub fn feed(
     t: &cipher::Table,
-    cipher: usize,
-    algorithm: usize,
-    padding: usize,
-    r: Rounds,
+    k: Keyed,
     hold: Hold,
     total: usize,
     bytes: &[u8],
     bits: usize,
 ) -> Hold
-    requires { ⌜ (now t ≡ tableAt cipher) × Expanded cipher algorithm r × (bits ≤ 8 * length (now bytes)) × (0 < bits → total % 8 ≡ 0) ⌝ }
-    ensures { λ v. ⌜ Each cipher algorithm r (λ K. holdBits v ≡ kept (absorb (cipherAt cipher .n) (stepsAt cipher algorithm K) (stateAt (cipherAt cipher .n) padding total hold) (take bits (bytesBits (now (bytes .entry)))))) ⌝ }
+    requires { ⌜ (now t ≡ tableAt (k .cipher)) × Expanded k × (bits ≤ 8 * length (now bytes)) × (0 < bits → total % 8 ≡ 0) ⌝ }
+    ensures { λ v. ⌜ Each k (λ K. v ≡ holdOf (absorb (widthOf k) (stepsOf k K) (stateOf k total hold) (take bits (bytesBits (now (bytes .entry)))))) ⌝ }
 {
-    let chain = hold.chain;
+    let value = hold.value;
     let held = hold.held;
-    let n = cipher::width(cipher);
-    let waits = held_bits(cipher, total);
+    let n = cipher::width(k.cipher);
+    let waits = held_bits(k.cipher, total);
     let b = block::join(held, waits, block::front(bytes));
-    let room = n - waits;
-    if bits <= room {
+    let space = n - waits;
+    if bits <= space {
         return Hold {
-            chain: block::leftmost(chain, n),
+            value: block::leftmost(value, n),
             held: block::leftmost(b, waits + bits),
         };
     }
-    let h = advance(
-        t,
-        cipher,
-        algorithm,
-        r,
-        begun_at(cipher, padding, total),
-        chain,
-        b,
-    );
-    let rest = &bytes[room / 8..];
-    let more = bits - room;
-    let blocks = (more - 1) / n;
+    let begun = begun_at(k.cipher, k.settings.padding, total);
+    let h = advance(t, k, begun, value, b);
+    let rest = &bytes[space / 8..];
+    let beyond = bits - space;
+    let blocks = (beyond - 1) / n;
     let done = blocks * n;
-    let k = r.k;
-    let c = through(t, cipher, k, h, rest, blocks);
+    let first = k.rounds.first;
+    let c = through(t, k.cipher, first, h, rest, blocks);
     let last = block::front(&rest[done / 8..]);
     Hold {
-        chain: block::leftmost(c, n),
-        held: block::leftmost(last, more - done),
+        value: block::leftmost(c, n),
+        held: block::leftmost(last, beyond - done),
     }
 }
 
 // ---- the beginning
 
 // H0.
-fn start_value(t: &cipher::Table, cipher: usize, algorithm: usize, r: Rounds) -> [u8; 16]
-    requires { ⌜ now t ≡ tableAt cipher ⌝ }
-    ensures { λ v. ⌜ Each cipher algorithm r (λ K. take (cipherAt cipher .n) (bytesBits v) ≡ stepsAt cipher algorithm K .start) ⌝ }
+fn start_value(t: &cipher::Table, k: Keyed) -> [u8; 16]
+    requires { ⌜ now t ≡ tableAt (k .cipher) ⌝ }
+    ensures { λ v. ⌜ Each k (λ K. take (widthOf k) (bytesBits v) ≡ stepsOf k K .start) ⌝ }
 {
-    if algorithm == 8 {
-        let k = r.k;
-        return enc(t, cipher, k, [0u8; 16]);
+    if k.settings.algorithm == 8 {
+        let first = k.rounds.first;
+        return enc(t, k.cipher, first, [0u8; 16]);
     }
     [0u8; 16]
 }
 
-// The chain value where the message begins: under padding 3 the block L has gone through.
-pub fn begin(
-    t: &cipher::Table,
-    cipher: usize,
-    algorithm: usize,
-    padding: usize,
-    r: Rounds,
-    declared: u32,
-) -> [u8; 16]
-    requires { ⌜ (now t ≡ tableAt cipher) × Expanded cipher algorithm r ⌝ }
-    ensures { λ v. ⌜ Each cipher algorithm r (λ K. bytesBits v ≡ filledBlock (opened (cipherAt cipher) (algorithmAt algorithm) (methodAt padding) K declared .value .out)) ⌝ }
+// Where the message begins: under padding 3 the block L has gone through, and nothing waits.
+pub fn begin(t: &cipher::Table, k: Keyed, declared: u32) -> Hold
+    requires { ⌜ (now t ≡ tableAt (k .cipher)) × Expanded k ⌝ }
+    ensures { λ v. ⌜ Each k (λ K. v ≡ holdOf (opened (cipherAt (k .cipher)) (algorithmAt (k .settings .algorithm)) (methodAt (k .settings .padding)) K declared)) ⌝ }
 {
-    let n = cipher::width(cipher);
-    let h = start_value(t, cipher, algorithm, r);
-    if padding == 3 {
+    let n = cipher::width(k.cipher);
+    let h = start_value(t, k);
+    if k.settings.padding == 3 {
         let b = block::number(declared, n);
-        return block::leftmost(advance(t, cipher, algorithm, r, false, h, b), n);
+        return Hold {
+            value: block::leftmost(advance(t, k, false, h, b), n),
+            held: [0u8; 16],
+        };
     }
-    block::leftmost(h, n)
+    Hold {
+        value: block::leftmost(h, n),
+        held: [0u8; 16],
+    }
 }
 
 // ---- the end
 
 // K1 where the message is complete, else K2.
-fn mask(t: &cipher::Table, cipher: usize, k: [u32; 32], whole: bool) -> [u8; 16]
+fn mask(t: &cipher::Table, cipher: usize, rk: [u32; 32], complete: bool) -> [u8; 16]
     requires { ⌜ now t ≡ tableAt cipher ⌝ }
-    ensures { λ v. ⌜ take (cipherAt cipher .n) (bytesBits v) ≡ pick whole (double (cipherAt cipher .poly) (encAt cipher (words k) (zeros (cipherAt cipher .n)))) (double (cipherAt cipher .poly) (double (cipherAt cipher .poly) (encAt cipher (words k) (zeros (cipherAt cipher .n))))) ⌝ }
+    ensures { λ v. ⌜ take (cipherAt cipher .n) (bytesBits v) ≡ pick complete (double (cipherAt cipher .poly) (encAt cipher (words rk) (zeros (cipherAt cipher .n)))) (double (cipherAt cipher .poly) (double (cipherAt cipher .poly) (encAt cipher (words rk) (zeros (cipherAt cipher .n))))) ⌝ }
 {
     let n = cipher::width(cipher);
     let p = cipher::poly(cipher);
-    let k1 = block::double(enc(t, cipher, k, [0u8; 16]), n, p);
-    if whole {
+    let k1 = block::double(enc(t, cipher, rk, [0u8; 16]), n, p);
+    if complete {
         return k1;
     }
     block::double(k1, n, p)
 }
 
 // The turn of algorithm 8.
-fn turned(cipher: usize, z: [u8; 16], whole: bool) -> [u8; 16]
-    ensures { λ v. ⌜ take (cipherAt cipher .n) (bytesBits v) ≡ pick whole (rotr 1 (take (cipherAt cipher .n) (bytesBits z))) (rotl 1 (take (cipherAt cipher .n) (bytesBits z))) ⌝ }
+fn turned(cipher: usize, z: [u8; 16], complete: bool) -> [u8; 16]
+    ensures { λ v. ⌜ take (cipherAt cipher .n) (bytesBits v) ≡ pick complete (rotr 1 (take (cipherAt cipher .n) (bytesBits z))) (rotl 1 (take (cipherAt cipher .n) (bytesBits z))) ⌝ }
 {
     let n = cipher::width(cipher);
-    if whole {
+    if complete {
         return block::turn_right(z, n);
     }
     block::turn_left(z, n)
 }
 
 // The last step of an algorithm.
-fn last(
-    t: &cipher::Table,
-    cipher: usize,
-    algorithm: usize,
-    r: Rounds,
-    whole: bool,
-    z: [u8; 16],
-) -> [u8; 16]
-    requires { ⌜ now t ≡ tableAt cipher ⌝ }
-    ensures { λ v. ⌜ Each cipher algorithm r (λ K. take (cipherAt cipher .n) (bytesBits v) ≡ stepsAt cipher algorithm K .last whole (take (cipherAt cipher .n) (bytesBits z)) .out) ⌝ }
+fn last(t: &cipher::Table, k: Keyed, complete: bool, z: [u8; 16]) -> [u8; 16]
+    requires { ⌜ now t ≡ tableAt (k .cipher) ⌝ }
+    ensures { λ v. ⌜ Each k (λ K. take (widthOf k) (bytesBits v) ≡ stepsOf k K .last complete (take (widthOf k) (bytesBits z)) .out) ⌝ }
 {
-    let k = r.k;
-    let k1 = r.k1;
+    let cipher = k.cipher;
+    let algorithm = k.settings.algorithm;
+    let first = k.rounds.first;
+    let second = k.rounds.second;
     if algorithm == 5 {
-        return enc(t, cipher, k, block::xor(z, mask(t, cipher, k, whole)));
+        return enc(
+            t,
+            cipher,
+            first,
+            block::xor(z, mask(t, cipher, first, complete)),
+        );
     }
     if algorithm == 6 {
-        return enc(t, cipher, k1, z);
+        return enc(t, cipher, second, z);
     }
     if algorithm == 8 {
-        return enc(t, cipher, k, turned(cipher, z, whole));
+        return enc(t, cipher, first, turned(cipher, z, complete));
     }
-    let g = enc(t, cipher, k, z);
+    let g = enc(t, cipher, first, z);
     if algorithm == 2 {
-        return enc(t, cipher, k1, g);
+        return enc(t, cipher, second, g);
     }
     if algorithm == 3 {
-        return enc(t, cipher, k, dec(t, cipher, k1, g));
+        return enc(t, cipher, first, dec(t, cipher, second, g));
     }
     if algorithm == 4 {
-        return enc(t, cipher, k1, g);
+        return enc(t, cipher, second, g);
     }
     g
 }
 
 // The tag's m bits of G, and zeros after them.
-fn cut(cipher: usize, algorithm: usize, whole: bool, m: usize, g: [u8; 16]) -> [u8; 16]
-    ensures { λ v. ⌜ ((K : Keys) → bytesBits v ≡ filledBlock (stepsAt cipher algorithm K .cut whole m (take (cipherAt cipher .n) (bytesBits g)))) ⌝ }
+fn cut(k: Keyed, complete: bool, g: [u8; 16]) -> [u8; 16]
+    ensures { λ v. ⌜ ((K : Keys) → bytesBits v ≡ filledBlock (stepsOf k K .cut complete (k .settings .m) (take (widthOf k) (bytesBits g)))) ⌝ }
 {
-    let n = cipher::width(cipher);
-    if algorithm != 7 {
+    let n = cipher::width(k.cipher);
+    let m = k.settings.m;
+    if k.settings.algorithm != 7 {
         return block::leftmost_of(g, n, m);
     }
-    if whole {
+    if complete {
         return block::leftmost_of(g, n, m);
     }
     block::rightmost_of(g, n, m)
 }
 
 // The tag, where b is the last block and h the chain value before it.
-fn ended(
-    t: &cipher::Table,
-    cipher: usize,
-    algorithm: usize,
-    m: usize,
-    r: Rounds,
-    whole: bool,
-    h: [u8; 16],
-    b: [u8; 16],
-) -> [u8; 16]
-    requires { ⌜ now t ≡ tableAt cipher ⌝ }
-    ensures { λ v. ⌜ Each cipher algorithm r (λ K. bytesBits v ≡ filledBlock (finish (stepsAt cipher algorithm K) whole m (lastState (cipherAt cipher .n) h b) .out)) ⌝ }
+fn ended(t: &cipher::Table, k: Keyed, complete: bool, h: [u8; 16], b: [u8; 16]) -> [u8; 16]
+    requires { ⌜ now t ≡ tableAt (k .cipher) ⌝ }
+    ensures { λ v. ⌜ Each k (λ K. bytesBits v ≡ filledBlock (finish (stepsOf k K) complete (k .settings .m) (lastState (widthOf k) h b) .out)) ⌝ }
 {
-    cut(
-        cipher,
-        algorithm,
-        whole,
-        m,
-        last(t, cipher, algorithm, r, whole, block::xor(b, h)),
-    )
+    cut(k, complete, last(t, k, complete, block::xor(b, h)))
 }
 
 // What the padding puts after a message: zeros, or a one and zeros.
@@ -376,60 +347,31 @@ fn spills(padding: usize, waits: usize, n: usize) -> bool
 }
 
 // The end of a message of so many bits: the tag's m bits, and zeros after them.
-pub fn close(
-    t: &cipher::Table,
-    cipher: usize,
-    algorithm: usize,
-    padding: usize,
-    m: usize,
-    r: Rounds,
-    hold: Hold,
-    total: usize,
-) -> [u8; 16]
-    requires { ⌜ (now t ≡ tableAt cipher) × Expanded cipher algorithm r ⌝ }
-    ensures { λ v. ⌜ Each cipher algorithm r (λ K. bytesBits v ≡ filledBlock (finish (stepsAt cipher algorithm K) (complete (cipherAt cipher .n) total) m (absorb (cipherAt cipher .n) (stepsAt cipher algorithm K) (stateAt (cipherAt cipher .n) padding total hold) (suffix (methodAt padding) (cipherAt cipher .n) total)) .out)) ⌝ }
+pub fn close(t: &cipher::Table, k: Keyed, hold: Hold, total: usize) -> [u8; 16]
+    requires { ⌜ (now t ≡ tableAt (k .cipher)) × Expanded k ⌝ }
+    ensures { λ v. ⌜ Each k (λ K. bytesBits v ≡ filledBlock (finish (stepsOf k K) (complete (widthOf k) total) (k .settings .m) (absorb (widthOf k) (stepsOf k K) (stateOf k total hold) (suffix (methodAt (k .settings .padding)) (widthOf k) total)) .out)) ⌝ }
 {
-    let chain = hold.chain;
+    let value = hold.value;
     let held = hold.held;
+    let padding = k.settings.padding;
     let p = mark(padding);
-    let n = cipher::width(cipher);
-    let waits = held_bits(cipher, total);
+    let n = cipher::width(k.cipher);
+    let waits = held_bits(k.cipher, total);
     if spills(padding, waits, n) {
-        let begun = begun_at(cipher, padding, total);
-        let h = advance(t, cipher, algorithm, r, begun, chain, held);
-        return ended(t, cipher, algorithm, m, r, true, h, p);
+        let begun = begun_at(k.cipher, padding, total);
+        let h = advance(t, k, begun, value, held);
+        return ended(t, k, true, h, p);
     }
     let b = block::join(held, waits, p);
-    ended(t, cipher, algorithm, m, r, waits == n, chain, b)
+    ended(t, k, waits == n, value, b)
 }
 
 // ---- calls
 
-// How many calls an algorithm makes besides one for each block.
-fn more(algorithm: usize) -> usize
-    ensures { λ r. ⌜ r ≡ row (algorithmAt algorithm) .more ⌝ }
-{
-    if algorithm == 2 {
-        return 1;
-    }
-    if algorithm == 3 {
-        return 2;
-    }
-    if algorithm == 4 {
-        return 2;
-    }
-    if algorithm == 5 {
-        return 1;
-    }
-    if algorithm == 8 {
-        return 1;
-    }
-    0
-}
-
 // How many cipher calls the tag of so many bits takes.
-pub fn calls(cipher: usize, algorithm: usize, padding: usize, bits: usize) -> usize
-    ensures { λ r. ⌜ r ≡ blockCount (methodAt padding) (cipherAt cipher .n) bits + row (algorithmAt algorithm) .more ⌝ }
+pub fn calls(cipher: usize, s: settings::Settings, bits: usize) -> usize
+    ensures { λ r. ⌜ r ≡ blockCount (methodAt (s .padding)) (cipherAt cipher .n) bits + row (algorithmAt (s .algorithm)) .further ⌝ }
 {
-    mac::block_count(cipher, padding, bits) + more(algorithm)
+    let row = mac::row_of(s.algorithm);
+    mac::block_count(cipher, s.padding, bits) + row.further
 }

@@ -12,7 +12,7 @@ use borrow.Author.Tests.{eqb-true, eqb-false}
 use Rattle.bits.specs.Choice.{pick}
 use Rattle.fields.specs.Field.{outside}
 use Rattle.fields.specs.Date.{days, leap, daysIn, dateWrong}
-use Rattle.fields.proofs.Heads.{Within, within, neither}
+use Rattle.fields.proofs.Formed.{Within, within, neither}
 
 unfoldable pub calendar : Bool → ℕ → ℕ
 calendar leapYear month =

@@ -1,5 +1,5 @@
 -- The first 76 bytes settle what the fields are refused for. Two slips that both go on for 76 bytes and agree in these are read
--- alike field by field: a head looks at three bytes, an allowed length is cut short in neither, so values and next fields agree
+-- alike field by field: label and length are three bytes, an allowed length is cut short in neither, so values and next fields agree
 -- too. And a slip whose fields are clear has 75 bytes at most (`longest`), so a program need not read more of a slip than 76.
 -- Assumes nothing.
 use mathlib.Core.Path.{_≡_, refl, sym, ap, _∙_, subst₂}
@@ -14,10 +14,12 @@ use borrow.Author.Tests.{lt-ltb, le-ltb}
 use Rattle.bits.specs.Choice.{pick, Fault, _given_, firstOf}
 use Rattle.bits.proofs.Lists.{drop-take}
 use Rattle.bits.proofs.Faults.{Numbered, first-clear, first-append, first-append-clear}
-use Rattle.fields.specs.Field.{outside, pairAt, lengthOf, value, endOf, headFaults}
+use Rattle.fields.specs.Format.{expiryRow, lotRow, amountRow, sealRow}
+use Rattle.fields.specs.Field.{outside, anyOutside, twoBytes, lengthOf, value, endOf, fieldFaults}
 use Rattle.fields.specs.Date.{digitAt, twoDigits, yearOf, monthOf, dayOf}
 use Rattle.fields.specs.Layout.{lotAt, lotField, amountField, sealField, amountOf, expiryFaults, lotFaults, amountFaults, sealFaults, layoutFaults}
-use Rattle.fields.proofs.Heads.{within, headed-clear, head-numbered, end-whole}
+use Rattle.fields.specs.declared.Row.{Row}
+use Rattle.fields.proofs.Formed.{within, formed, field-numbered, end-whole}
 use Rattle.fields.proofs.Inside.{seal-long}
 use Rattle.fields.proofs.Laid.{LaidOut, expiry-numbered, lot-numbered, amount-numbered, seal-most}
 use Rattle.fields.proofs.Whole.{after-lot, after-amount}
@@ -39,9 +41,9 @@ front-clear [] gs e = refl
 front-clear (k given true ∷ fs) gs e = e
 front-clear (k given false ∷ fs) gs e = front-clear fs gs e
 
--- a head that is clear names no length over the most
-head-most : (tag least most : ℕ) (field : List ℕ) → firstOf (headFaults tag least most field) ≡ 0 → lengthOf field ≤ most
-head-most tag least most field e = headed-clear tag least most field (first-clear (headFaults tag least most field) (head-numbered tag least most field) e) .allowed .high
+-- a field that is clear names no length over the most
+length-most : (row : Row) (field : List ℕ) → firstOf (fieldFaults row field) ≡ 0 → lengthOf field ≤ row .most
+length-most row field e = formed row field (first-clear (fieldFaults row field) (field-numbered row field) e) .allowed .high
 
 -- ---- the same first bytes
 
@@ -55,9 +57,9 @@ module _ (n : ℕ) (f g : List ℕ) (alike : Alike n f g) where
   byte-alike : (i : ℕ) → i < n → getD f i 0 ≡ getD g i 0
   byte-alike i h = sym (getD-take n f i 0 h) ∙ ap (λ (l : List ℕ). getD l i 0) (alike .same) ∙ getD-take n g i 0 h
 
-  pair-alike : (i : ℕ) → i + 1 < n → pairAt f i ≡ pairAt g i
-  unfolding pairAt
-  pair-alike i h = rw (byte-alike i (omega arith), byte-alike (i + 1) h) refl
+  bytes-alike : (i : ℕ) → i + 1 < n → twoBytes f i ≡ twoBytes g i
+  unfolding twoBytes
+  bytes-alike i h = rw (byte-alike i (omega arith), byte-alike (i + 1) h) refl
 
   digits-alike : (i : ℕ) → i + 1 < n → twoDigits f i ≡ twoDigits g i
   unfolding twoDigits digitAt
@@ -75,36 +77,38 @@ module _ (n : ℕ) (f g : List ℕ) (alike : Alike n f g) where
 
   length-alike : 3 ≤ n → lengthOf f ≡ lengthOf g
   unfolding lengthOf
-  length-alike h = pair-alike 1 (omega arith)
+  length-alike h = bytes-alike 1 (omega arith)
 
   value-alike : 3 + lengthOf f ≤ n → value f ≡ value g
   unfolding value
   value-alike h = from-alike 3 (lengthOf f) h .same ∙ ap (λ (k : ℕ). take k (drop 3 g)) (length-alike (omega arith))
 
-  head-alike : (tag least most : ℕ) → 3 + most ≤ n → firstOf (headFaults tag least most f) ≡ firstOf (headFaults tag least most g)
-  unfolding headFaults firstOf pick
-  head-alike tag least most h =
+  row-alike : (row : Row) → 3 + row .most ≤ n → firstOf (fieldFaults row f) ≡ firstOf (fieldFaults row g)
+  unfolding fieldFaults firstOf pick
+  row-alike row h =
       rw (le-ltb (length f) 3 (omega (arith, alike .left)), le-ltb (length g) 3 (omega (arith, alike .right)), byte-alike 0 (omega arith), length-alike (omega arith))
-      (ap (pick (not (eqb (getD g 0 0) tag)) 21) (go (outside least most (lengthOf g)) refl))
+      (ap (pick (not (eqb (getD g 0 0) (row .label))) 21) (go (outside (row .least) (row .most) (lengthOf g)) refl))
     where
-      go : (b : Bool) → outside least most (lengthOf g) ≡ b
-          → firstOf (22 given b ∷ 20 given ltb (length f - 3) (lengthOf g) ∷ []) ≡ firstOf (22 given b ∷ 20 given ltb (length g - 3) (lengthOf g) ∷ [])
+      go : (b : Bool) → outside (row .least) (row .most) (lengthOf g) ≡ b
+          → firstOf (22 given b ∷ 20 given ltb (length f - 3) (lengthOf g) ∷ 22 given anyOutside (row .low) (row .high) (value f) ∷ [])
+          ≡ firstOf (22 given b ∷ 20 given ltb (length g - 3) (lengthOf g) ∷ 22 given anyOutside (row .low) (row .high) (value g) ∷ [])
       go true e = refl
       go false e =
-          let high = within least most (lengthOf g) e .high in
-          rw (le-ltb (length f - 3) (lengthOf g) (omega (arith, alike .left)), le-ltb (length g - 3) (lengthOf g) (omega (arith, alike .right))) refl
+          let high = within (row .least) (row .most) (lengthOf g) e .high in
+          let long : lengthOf f ≡ lengthOf g = length-alike (omega arith) in
+          rw (le-ltb (length f - 3) (lengthOf g) (omega (arith, alike .left)), le-ltb (length g - 3) (lengthOf g) (omega (arith, alike .right)), value-alike (omega arith)) refl
 
-  -- the refusals of a head, and others after it that are alike where the length is allowed
-  field-alike : (tag least most : ℕ) (fs gs : List Fault) → 3 + most ≤ n → (lengthOf f ≤ most → firstOf fs ≡ firstOf gs)
-      → firstOf (headFaults tag least most f ++ fs) ≡ firstOf (headFaults tag least most g ++ gs)
-  field-alike tag least most fs gs h rest =
-      then-same (headFaults tag least most f) (headFaults tag least most g) fs gs (head-numbered tag least most f) (head-numbered tag least most g) (head-alike tag least most h)
-      (λ e. rest (head-most tag least most f e))
+  -- the refusals that the row gives, and others after them that are alike where the length is allowed
+  field-alike : (row : Row) (fs gs : List Fault) → 3 + row .most ≤ n → (lengthOf f ≤ row .most → firstOf fs ≡ firstOf gs)
+      → firstOf (fieldFaults row f ++ fs) ≡ firstOf (fieldFaults row g ++ gs)
+  field-alike row fs gs h rest =
+      then-same (fieldFaults row f) (fieldFaults row g) fs gs (field-numbered row f) (field-numbered row g) (row-alike row h)
+      (λ e. rest (length-most row f e))
 
   -- the field is whole in both where the one is clear: the next one begins at the same place
-  next-alike : (tag least most k : ℕ) (fs : List Fault) → 3 + most + k ≤ n → firstOf (headFaults tag least most f ++ fs) ≡ 0 → Alike k (drop (endOf f) f) (drop (endOf g) g)
-  next-alike tag least most k fs h e =
-      let high = head-most tag least most f (front-clear (headFaults tag least most f) fs e) in
+  next-alike : (row : Row) (k : ℕ) → 3 + row .most + k ≤ n → firstOf (fieldFaults row f) ≡ 0 → Alike k (drop (endOf f) f) (drop (endOf g) g)
+  next-alike row k h e =
+      let high = length-most row f e in
       let long : lengthOf f ≡ lengthOf g = length-alike (omega arith) in
       let end-f : endOf f ≡ 3 + lengthOf f = end-whole f (omega (arith, alike .left)) in
       let end-g : endOf g ≡ 3 + lengthOf f = omega (arith, end-whole g (omega (arith, alike .right))) in
@@ -115,22 +119,22 @@ module _ (n : ℕ) (f g : List ℕ) (alike : Alike n f g) where
   expiry-alike : 11 ≤ n → firstOf (expiryFaults f) ≡ firstOf (expiryFaults g)
   unfolding expiryFaults yearOf monthOf dayOf
   expiry-alike h =
-      field-alike 0x01 8 8 _ _ h
-      (λ allowed. rw (value-alike (omega arith), digits-alike 3 (omega arith), digits-alike 5 (omega arith), digits-alike 7 (omega arith), digits-alike 9 (omega arith)) refl)
+      field-alike expiryRow _ _ h
+      (λ allowed. rw (digits-alike 3 (omega arith), digits-alike 5 (omega arith), digits-alike 7 (omega arith), digits-alike 9 (omega arith)) refl)
 
   lot-alike : 35 ≤ n → firstOf (lotFaults f) ≡ firstOf (lotFaults g)
   unfolding lotFaults
-  lot-alike h = field-alike 0x02 1 32 _ _ h (λ allowed. rw (value-alike (omega arith)) refl)
+  lot-alike h = row-alike lotRow h
 
   amount-alike : 7 ≤ n → firstOf (amountFaults f) ≡ firstOf (amountFaults g)
   unfolding amountFaults amountOf
-  amount-alike h = field-alike 0x03 4 4 _ _ h (λ allowed. rw (pair-alike 3 (omega arith), pair-alike 5 (omega arith)) refl)
+  amount-alike h = field-alike amountRow _ _ h (λ allowed. rw (bytes-alike 3 (omega arith), bytes-alike 5 (omega arith)) refl)
 
   -- a seal of 22 bytes at most, and a byte after it
   seal-alike : 23 ≤ n → firstOf (sealFaults f) ≡ firstOf (sealFaults g)
   unfolding sealFaults
   seal-alike h =
-      field-alike 0x7f 4 19 _ _ (omega arith)
+      field-alike sealRow _ _ (omega arith)
       (λ allowed.
       let long : lengthOf f ≡ lengthOf g = length-alike (omega arith) in
       let over-f : endOf f < length f = omega (arith, end-whole f (omega (arith, alike .left)), alike .left) in
@@ -142,15 +146,15 @@ module _ (n : ℕ) (f g : List ℕ) (alike : Alike n f g) where
 module _ (s t : List ℕ) where
   lot-next : Alike 76 s t → firstOf (expiryFaults s) ≡ 0 → Alike 65 (lotField s) (lotField t)
   unfolding expiryFaults lotField lotAt
-  lot-next alike e = next-alike 76 s t alike 0x01 8 8 65 _ (omega arith) e
+  lot-next alike e = next-alike 76 s t alike expiryRow 65 (omega arith) (front-clear (fieldFaults expiryRow s) _ e)
 
   amount-next : Alike 65 (lotField s) (lotField t) → firstOf (lotFaults (lotField s)) ≡ 0 → Alike 30 (amountField s) (amountField t)
   unfolding lotFaults
-  amount-next alike e = subst₂ (Alike 30) (after-lot s) (after-lot t) (next-alike 65 (lotField s) (lotField t) alike 0x02 1 32 30 _ (omega arith) e)
+  amount-next alike e = subst₂ (Alike 30) (after-lot s) (after-lot t) (next-alike 65 (lotField s) (lotField t) alike lotRow 30 (omega arith) e)
 
   seal-next : Alike 30 (amountField s) (amountField t) → firstOf (amountFaults (amountField s)) ≡ 0 → Alike 23 (sealField s) (sealField t)
   unfolding amountFaults
-  seal-next alike e = subst₂ (Alike 23) (after-amount s) (after-amount t) (next-alike 30 (amountField s) (amountField t) alike 0x03 4 4 23 _ (omega arith) e)
+  seal-next alike e = subst₂ (Alike 23) (after-amount s) (after-amount t) (next-alike 30 (amountField s) (amountField t) alike amountRow 23 (omega arith) (front-clear (fieldFaults amountRow (amountField s)) _ e))
 
 -- 76 bytes are 11 of the expiry, 35 of the longest lot, 7 of the amount, 22 of the longest seal, and one more
 pub layout-alike : (s t : List ℕ) → Alike 76 s t → firstOf (layoutFaults s) ≡ firstOf (layoutFaults t)

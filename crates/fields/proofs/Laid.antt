@@ -3,36 +3,37 @@
 -- Assumes nothing.
 use mathlib.Core.Path.{_≡_}
 use mathlib.Core.Bool.{Bool, false}
-use mathlib.Core.List.{List, _∷_}
+use mathlib.Core.List.{List, [], _∷_}
 use Prim.Native.Nat.{ℕ, _+_, _≤_}
 use native.Mathlib.Omega.{arith}
 use lib.ListN.{length, length-take}
 use borrow.Author.Tests.{ltb-false}
-use Rattle.bits.specs.Choice.{Fault, _given_, firstOf}
-use Rattle.bits.proofs.Faults.{Clear, passed, Numbered, also, none, first-clear, clear-append, numbered-append}
-use Rattle.fields.specs.Field.{anyOutside, lengthOf, value, endOf, headFaults}
+use Rattle.bits.specs.Choice.{_given_, firstOf}
+use Rattle.bits.proofs.Faults.{Clear, passed, done, Numbered, also, none, first-clear, clear-append, numbered-append}
+use Rattle.fields.specs.Format.{expiryRow, lotRow, amountRow, sealRow}
+use Rattle.fields.specs.Field.{lengthOf, endOf, fieldFaults}
 use Rattle.fields.specs.Date.{yearOf, monthOf, dayOf, dateWrong}
 use Rattle.fields.specs.Layout.{lotAt, amountAt, sealAt, lotField, amountField, sealField, covered, amountOf, expiryFaults, lotFaults, amountFaults, sealFaults, layoutFaults}
-use Rattle.fields.proofs.Heads.{Within, within, Headed, headed-clear, head-numbered, end-whole}
+use Rattle.fields.proofs.Formed.{Within, within, Formed, formed, field-numbered, end-whole}
 use Rattle.fields.proofs.Inside.{seal-there}
 
 -- ---- numbers of refusals are positive
 
 pub expiry-numbered : (field : List ℕ) → Numbered (expiryFaults field)
 unfolding expiryFaults
-expiry-numbered field = numbered-append (head-numbered 0x01 8 8 field) (also {k = 22} (omega arith) (also {k = 23} (omega arith) none))
+expiry-numbered field = numbered-append (field-numbered expiryRow field) (also {k = 23} (omega arith) none)
 
 pub lot-numbered : (field : List ℕ) → Numbered (lotFaults field)
 unfolding lotFaults
-lot-numbered field = numbered-append (head-numbered 0x02 1 32 field) (also {k = 22} (omega arith) none)
+lot-numbered field = field-numbered lotRow field
 
 pub amount-numbered : (field : List ℕ) → Numbered (amountFaults field)
 unfolding amountFaults
-amount-numbered field = numbered-append (head-numbered 0x03 4 4 field) (also {k = 22} (omega arith) none)
+amount-numbered field = numbered-append (field-numbered amountRow field) (also {k = 22} (omega arith) none)
 
 pub seal-numbered : (field : List ℕ) → Numbered (sealFaults field)
 unfolding sealFaults
-seal-numbered field = numbered-append (head-numbered 0x7f 4 19 field) (also {k = 24} (omega arith) none)
+seal-numbered field = numbered-append (field-numbered sealRow field) (also {k = 24} (omega arith) none)
 
 pub layout-numbered : (s : List ℕ) → Numbered (layoutFaults s)
 unfolding layoutFaults
@@ -41,18 +42,16 @@ layout-numbered s = numbered-append (expiry-numbered s) (numbered-append (lot-nu
 -- ---- what is known
 
 pub record LaidOut (s : List ℕ) : Type 0 where
-  pub expiry : Headed 0x01 8 8 s
-  pub digits : anyOutside 0x30 0x39 (value s) ≡ false
+  pub expiry : Formed expiryRow s
   pub date : dateWrong (yearOf s) (monthOf s) (dayOf s) ≡ false
-  pub lot : Headed 0x02 1 32 (lotField s)
-  pub visible : anyOutside 0x21 0x7e (value (lotField s)) ≡ false
-  pub amount : Headed 0x03 4 4 (amountField s)
+  pub lot : Formed lotRow (lotField s)
+  pub amount : Formed amountRow (amountField s)
   pub microlitres : Within 1 1000000 (amountOf (amountField s))
-  pub seal : Headed 0x7f 4 19 (sealField s)
+  pub seal : Formed sealRow (sealField s)
   pub ended : length (sealField s) ≤ endOf (sealField s)
 
-clear-one : {n : ℕ} {b : Bool} {fs : List Fault} → Clear (n given b ∷ fs) → (b ≡ false) × Clear fs
-clear-one (passed e c) = (e, c)
+clear-one : {n : ℕ} {b : Bool} → Clear (n given b ∷ []) → b ≡ false
+clear-one (passed e done) = e
 
 pub laid-out : (s : List ℕ) → firstOf (layoutFaults s) ≡ 0 → LaidOut s
 unfolding layoutFaults expiryFaults lotFaults amountFaults sealFaults
@@ -61,20 +60,17 @@ laid-out s e =
     let in-expiry = clear-append (expiryFaults s) _ all in
     let in-lot = clear-append (lotFaults (lotField s)) _ (in-expiry .1) in
     let in-amount = clear-append (amountFaults (amountField s)) (sealFaults (sealField s)) (in-lot .1) in
-    let expiry = clear-append (headFaults 0x01 8 8 s) _ (in-expiry .0) in
-    let lot = clear-append (headFaults 0x02 1 32 (lotField s)) _ (in-lot .0) in
-    let amount = clear-append (headFaults 0x03 4 4 (amountField s)) _ (in-amount .0) in
-    let seal = clear-append (headFaults 0x7f 4 19 (sealField s)) _ (in-amount .1) in
+    let expiry = clear-append (fieldFaults expiryRow s) _ (in-expiry .0) in
+    let amount = clear-append (fieldFaults amountRow (amountField s)) _ (in-amount .0) in
+    let seal = clear-append (fieldFaults sealRow (sealField s)) _ (in-amount .1) in
     record {
-      expiry = headed-clear 0x01 8 8 s (expiry .0);
-      digits = clear-one (expiry .1) .0;
-      date = clear-one (clear-one (expiry .1) .1) .0;
-      lot = headed-clear 0x02 1 32 (lotField s) (lot .0);
-      visible = clear-one (lot .1) .0;
-      amount = headed-clear 0x03 4 4 (amountField s) (amount .0);
-      microlitres = within 1 1000000 (amountOf (amountField s)) (clear-one (amount .1) .0);
-      seal = headed-clear 0x7f 4 19 (sealField s) (seal .0);
-      ended = ltb-false (endOf (sealField s)) (length (sealField s)) (clear-one (seal .1) .0);
+      expiry = formed expiryRow s (expiry .0);
+      date = clear-one (expiry .1);
+      lot = formed lotRow (lotField s) (in-lot .0);
+      amount = formed amountRow (amountField s) (amount .0);
+      microlitres = within 1 1000000 (amountOf (amountField s)) (clear-one (amount .1));
+      seal = formed sealRow (sealField s) (seal .0);
+      ended = ltb-false (endOf (sealField s)) (length (sealField s)) (clear-one (seal .1));
     }
 
 -- ---- where the fields stand

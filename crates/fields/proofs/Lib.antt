@@ -1,4 +1,4 @@
-pub mod Heads
+pub mod Formed
 pub mod Inside
 pub mod Laid
 pub mod Whole

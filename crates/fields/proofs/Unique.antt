@@ -15,10 +15,8 @@ use Rattle.fields.proofs.lot_length.Kinds as lot-length-k
 use Rattle.fields.proofs.lot_length.Reads as lot-length
 use Rattle.fields.proofs.amount.Kinds as amount-k
 use Rattle.fields.proofs.amount.Reads as amount
-use Rattle.fields.proofs.field_places.Kinds as field-places-k
-use Rattle.fields.proofs.field_places.Reads as field-places
-use Rattle.fields.proofs.layout_refusal.Kinds as layout-refusal-k
-use Rattle.fields.proofs.layout_refusal.Reads as layout-refusal
+use Rattle.fields.proofs.laid_out.Kinds as laid-out-k
+use Rattle.fields.proofs.laid_out.Reads as laid-out
 
 pub byte-at-unique : Unique byte-at-k.ps byte-at-k.r byte-at.Asked byte-at.Learnt
 byte-at-unique κs a g p x y = (same (x .ensures .0) (y .ensures .0), refl)
@@ -38,8 +36,5 @@ lot-length-unique κs a g p x y = (same (x .ensures) (y .ensures), refl)
 pub amount-unique : Unique amount-k.ps amount-k.r amount.Asked amount.Learnt
 amount-unique κs a g p x y = (same (x .ensures) (y .ensures), refl)
 
-pub field-places-unique : Unique field-places-k.ps field-places-k.r field-places.Asked field-places.Learnt
-field-places-unique κs a g p x y = (same (x .ensures) (y .ensures), refl)
-
-pub layout-refusal-unique : Unique layout-refusal-k.ps layout-refusal-k.r layout-refusal.Asked layout-refusal.Learnt
-layout-refusal-unique κs a g p x y = (same (x .ensures) (y .ensures), refl)
+pub laid-out-unique : Unique laid-out-k.ps laid-out-k.r laid-out.Asked laid-out.Learnt
+laid-out-unique κs a g p x y = (same (x .ensures) (y .ensures), refl)

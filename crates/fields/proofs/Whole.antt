@@ -1,5 +1,5 @@
--- A slip without a fault in its fields is nothing but its four fields: tag, length and value of each, one after the other, and no
--- byte besides. A head that names an allowed length names the value's own length, since none is over 255.
+-- A slip without a fault in its fields is nothing but its four fields: label, length and value of each, one after the other, and no
+-- byte besides. A field that names an allowed length names the value's own length, since none is over 255.
 -- Assumes nothing.
 use mathlib.Core.Path.{_≡_, refl, sym, ap, _∙_}
 use mathlib.Core.List.{List, _∷_, _++_, append-nil}
@@ -7,16 +7,14 @@ use Prim.Native.Nat.{ℕ, _/_, _%_, _<_}
 use native.Mathlib.Omega.{arith}
 use lib.ListN.{length, take, drop, getD, length-drop, take-append-drop, drop-of-length-le}
 use lib.Seq.{drop-cons, drop-drop, length-take-le}
-use Rattle.fields.specs.Field.{pairAt, lengthOf, value, endOf}
+use Rattle.fields.specs.Format.{expiryRow, lotRow, amountRow, sealRow}
+use Rattle.fields.specs.Field.{twoBytes, lengthOf, value, endOf, fieldOf}
 use Rattle.fields.specs.Layout.{lotAt, amountAt, sealAt, lotField, amountField, sealField, covered}
-use Rattle.fields.proofs.Heads.{Headed, end-whole}
+use Rattle.fields.specs.declared.Row.{Row}
+use Rattle.fields.proofs.Formed.{Formed, end-whole}
 use Rattle.fields.proofs.Laid.{LaidOut}
 
--- a field's bytes: its tag, its length in two bytes, high byte first, its value
-abbrev pub fieldOf : ℕ → List ℕ → List ℕ
-fieldOf tag v = tag ∷ length v / 256 ∷ length v % 256 ∷ v
-
-module _ (tag least most : ℕ) (field : List ℕ) (ok : Headed tag least most field) where
+module _ (row : Row) (field : List ℕ) (ok : Formed row field) where
   pub value-long : length (value field) ≡ lengthOf field
   unfolding value
   value-long = length-take-le (lengthOf field) (drop 3 field) (omega (arith, length-drop 3 field, ok .whole))
@@ -33,12 +31,12 @@ module _ (tag least most : ℕ) (field : List ℕ) (ok : Headed tag least most f
       sym (take-append-drop (lengthOf field) (drop 3 field))
       ∙ ap (λ (l : List ℕ). take (lengthOf field) (drop 3 field) ++ l) (drop-drop (lengthOf field) 3 field ∙ ap (λ (k : ℕ). drop k field) (sym (end-whole field (ok .whole))))
 
-  pub field-first : most < 256 → field ≡ fieldOf tag (value field) ++ drop (endOf field) field
-  unfolding lengthOf pairAt
+  pub field-first : row .most < 256 → field ≡ fieldOf row (value field) ++ drop (endOf field) field
+  unfolding lengthOf twoBytes
   field-first small =
       let high : getD field 1 0 ≡ length (value field) / 256 = omega (arith, value-long, ok .allowed .high) in
       let low : getD field 2 0 ≡ length (value field) % 256 = omega (arith, value-long, ok .allowed .high) in
-      three-first ∙ rw (ok .tagged, high, low, rest) refl
+      three-first ∙ rw (ok .labelled, high, low, rest) refl
 
 -- what is left after a field is the next one
 pub after-lot : (s : List ℕ) → drop (endOf (lotField s)) (lotField s) ≡ amountField s
@@ -50,29 +48,29 @@ unfolding amountField sealField sealAt
 after-amount s = drop-drop (endOf (amountField s)) (amountAt s) s
 
 module _ (s : List ℕ) (ok : LaidOut s) where
-  expiry-first : s ≡ fieldOf 0x01 (value s) ++ lotField s
+  expiry-first : s ≡ fieldOf expiryRow (value s) ++ lotField s
   unfolding lotField lotAt
-  expiry-first = field-first 0x01 8 8 s (ok .expiry) (omega arith)
+  expiry-first = field-first expiryRow s (ok .expiry) (omega arith)
 
-  lot-first : lotField s ≡ fieldOf 0x02 (value (lotField s)) ++ amountField s
-  lot-first = field-first 0x02 1 32 (lotField s) (ok .lot) (omega arith) ∙ ap (λ (l : List ℕ). fieldOf 0x02 (value (lotField s)) ++ l) (after-lot s)
+  lot-first : lotField s ≡ fieldOf lotRow (value (lotField s)) ++ amountField s
+  lot-first = field-first lotRow (lotField s) (ok .lot) (omega arith) ∙ ap (λ (l : List ℕ). fieldOf lotRow (value (lotField s)) ++ l) (after-lot s)
 
-  amount-first : amountField s ≡ fieldOf 0x03 (value (amountField s)) ++ sealField s
-  amount-first = field-first 0x03 4 4 (amountField s) (ok .amount) (omega arith) ∙ ap (λ (l : List ℕ). fieldOf 0x03 (value (amountField s)) ++ l) (after-amount s)
+  amount-first : amountField s ≡ fieldOf amountRow (value (amountField s)) ++ sealField s
+  amount-first = field-first amountRow (amountField s) (ok .amount) (omega arith) ∙ ap (λ (l : List ℕ). fieldOf amountRow (value (amountField s)) ++ l) (after-amount s)
 
-  pub seal-alone : sealField s ≡ fieldOf 0x7f (value (sealField s))
+  pub seal-alone : sealField s ≡ fieldOf sealRow (value (sealField s))
   seal-alone =
-      field-first 0x7f 4 19 (sealField s) (ok .seal) (omega arith)
-      ∙ ap (λ (l : List ℕ). fieldOf 0x7f (value (sealField s)) ++ l) (drop-of-length-le (sealField s) (ok .ended))
-      ∙ append-nil (fieldOf 0x7f (value (sealField s)))
+      field-first sealRow (sealField s) (ok .seal) (omega arith)
+      ∙ ap (λ (l : List ℕ). fieldOf sealRow (value (sealField s)) ++ l) (drop-of-length-le (sealField s) (ok .ended))
+      ∙ append-nil (fieldOf sealRow (value (sealField s)))
 
   pub covered-then-seal : s ≡ covered s ++ sealField s
   unfolding covered sealField
   covered-then-seal = sym (take-append-drop (sealAt s) s)
 
-  pub four-fields : s ≡ fieldOf 0x01 (value s) ++ (fieldOf 0x02 (value (lotField s)) ++ (fieldOf 0x03 (value (amountField s)) ++ fieldOf 0x7f (value (sealField s))))
+  pub four-fields : s ≡ fieldOf expiryRow (value s) ++ (fieldOf lotRow (value (lotField s)) ++ (fieldOf amountRow (value (amountField s)) ++ fieldOf sealRow (value (sealField s))))
   four-fields =
       expiry-first
-      ∙ ap (λ (l : List ℕ). fieldOf 0x01 (value s) ++ l) (lot-first
-      ∙ ap (λ (l : List ℕ). fieldOf 0x02 (value (lotField s)) ++ l) (amount-first
-      ∙ ap (λ (l : List ℕ). fieldOf 0x03 (value (amountField s)) ++ l) seal-alone))
+      ∙ ap (λ (l : List ℕ). fieldOf expiryRow (value s) ++ l) (lot-first
+      ∙ ap (λ (l : List ℕ). fieldOf lotRow (value (lotField s)) ++ l) (amount-first
+      ∙ ap (λ (l : List ℕ). fieldOf amountRow (value (amountField s)) ++ l) seal-alone))

@@ -1,7 +1,8 @@
--- A field that is put together from its tag and its value is read back from whatever slip goes on after it: its head is clear, its
--- value is that value, and after it comes what came after it.
+-- A field that is put together from its row and a value that the row allows is read back from whatever slip goes on after it: it has
+-- no fault, its value is that value, and after it comes what came after it.
 -- Assumes nothing.
 use mathlib.Core.Path.{_≡_, refl, ap, _∙_}
+use mathlib.Core.Bool.{false}
 use mathlib.Core.List.{List, _∷_, _++_}
 use Prim.Native.Nat.{ℕ, _+_, _-_, _/_, _%_, _≤_}
 use native.Mathlib.Omega.{arith}
@@ -10,33 +11,34 @@ use lib.Seq.{take-at, drop-at}
 use borrow.Author.Tests.{le-ltb, eq-eqb}
 use Rattle.bits.specs.Choice.{firstOf}
 use Rattle.bits.proofs.Faults.{passed, done, clear-first}
-use Rattle.fields.specs.Field.{outside, pairAt, lengthOf, value, endOf, headFaults}
-use Rattle.fields.proofs.Heads.{end-whole}
-use Rattle.fields.proofs.Whole.{fieldOf}
+use Rattle.fields.specs.Field.{outside, anyOutside, twoBytes, lengthOf, value, endOf, fieldFaults, fieldOf}
+use Rattle.fields.specs.declared.Row.{Row}
+use Rattle.fields.proofs.Formed.{end-whole}
 
-module _ (tag : ℕ) (v rest : List ℕ) where
-  pub written-length : lengthOf (fieldOf tag v ++ rest) ≡ length v
-  unfolding lengthOf pairAt
+module _ (row : Row) (v rest : List ℕ) where
+  pub written-length : lengthOf (fieldOf row v ++ rest) ≡ length v
+  unfolding lengthOf twoBytes
   written-length = omega arith
 
-  long : 3 + lengthOf (fieldOf tag v ++ rest) ≤ length (fieldOf tag v ++ rest)
+  long : 3 + lengthOf (fieldOf row v ++ rest) ≤ length (fieldOf row v ++ rest)
   long = omega (arith, written-length, length-append v rest)
 
-  pub written-value : value (fieldOf tag v ++ rest) ≡ v
+  pub written-value : value (fieldOf row v ++ rest) ≡ v
   unfolding value
   written-value = ap (λ (k : ℕ). take k (v ++ rest)) written-length ∙ take-at v rest (length v) refl
 
-  pub written-after : drop (endOf (fieldOf tag v ++ rest)) (fieldOf tag v ++ rest) ≡ rest
+  pub written-after : drop (endOf (fieldOf row v ++ rest)) (fieldOf row v ++ rest) ≡ rest
   written-after =
-      let e : endOf (fieldOf tag v ++ rest) ≡ length (tag ∷ length v / 256 ∷ length v % 256 ∷ v) = omega (arith, end-whole (fieldOf tag v ++ rest) long, written-length) in
-      ap (λ (k : ℕ). drop k (fieldOf tag v ++ rest)) e ∙ drop-at (fieldOf tag v) rest (length (fieldOf tag v)) refl
+      let e : endOf (fieldOf row v ++ rest) ≡ length (row .label ∷ length v / 256 ∷ length v % 256 ∷ v) = omega (arith, end-whole (fieldOf row v ++ rest) long, written-length) in
+      ap (λ (k : ℕ). drop k (fieldOf row v ++ rest)) e ∙ drop-at (fieldOf row v) rest (length (fieldOf row v)) refl
 
-  pub written-head : (least most : ℕ) → least ≤ length v → length v ≤ most → firstOf (headFaults tag least most (fieldOf tag v ++ rest)) ≡ 0
-  unfolding headFaults outside
-  written-head least most low high =
-      let f = fieldOf tag v ++ rest in
+  pub written-clear : row .least ≤ length v → length v ≤ row .most → anyOutside (row .low) (row .high) v ≡ false → firstOf (fieldFaults row (fieldOf row v ++ rest)) ≡ 0
+  unfolding fieldFaults outside
+  written-clear low high good =
+      let f = fieldOf row v ++ rest in
       clear-first
       (passed (le-ltb (length f) 3 (omega arith))
-      (passed (rw (eq-eqb tag tag refl) refl)
-      (passed (rw (written-length, le-ltb (length v) least low, le-ltb most (length v) high) refl)
-      (passed (le-ltb (length f - 3) (lengthOf f) (omega (arith, long))) done))))
+      (passed (rw (eq-eqb (row .label) (row .label) refl) refl)
+      (passed (rw (written-length, le-ltb (length v) (row .least) low, le-ltb (row .most) (length v) high) refl)
+      (passed (le-ltb (length f - 3) (lengthOf f) (omega (arith, long)))
+      (passed (ap (anyOutside (row .low) (row .high)) written-value ∙ good) done)))))

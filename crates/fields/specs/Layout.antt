@@ -4,10 +4,12 @@ use mathlib.Core.List.{List, [], _∷_, _++_}
 use Prim.Native.Nat.{ℕ, _+_, _*_}
 use lib.ListN.{length, take, drop}
 use lib.Dec.{ltb}
-use Rattle.bits.specs.Choice.{Fault, _given_}
-use Rattle.fields.specs.Field.{outside, anyOutside, pairAt, value, endOf, headFaults}
+use Rattle.bits.specs.Choice.{Fault, _given_, firstOf}
+use Rattle.fields.specs.Format.{expiryRow, lotRow, amountRow, sealRow}
+use Rattle.fields.specs.Field.{outside, twoBytes, endOf, fieldFaults}
 use Rattle.fields.specs.Date.{yearOf, monthOf, dayOf, dateWrong}
 use Rattle.fields.specs.declared.Places.{Places}
+use Rattle.fields.specs.declared.Layout.{Layout}
 
 -- ---- where the fields stand
 
@@ -36,31 +38,31 @@ sealField s = drop (sealAt s) s
 unfoldable pub covered : List ℕ → List ℕ
 covered s = take (sealAt s) s
 
--- ---- the faults of each field
+-- ---- the faults of each field: those of its row, and its own
 
--- 01 expiry: 8 digits; a wrong value byte, 22; a year outside 2000-2099 or an unreal date, 23
+-- 01 expiry: a year outside 2000-2099 or an unreal date, 23
 unfoldable pub expiryFaults : List ℕ → List Fault
-expiryFaults field =
-    headFaults 0x01 8 8 field ++
-    (22 given anyOutside 0x30 0x39 (value field) ∷
-    23 given dateWrong (yearOf field) (monthOf field) (dayOf field) ∷
-    [])
+expiryFaults field = fieldFaults expiryRow field ++ (23 given dateWrong (yearOf field) (monthOf field) (dayOf field) ∷ [])
 
--- 02 lot: 1 to 32 bytes, each 21..7E
+-- 02 lot: nothing besides
 unfoldable pub lotFaults : List ℕ → List Fault
-lotFaults field = headFaults 0x02 1 32 field ++ (22 given anyOutside 0x21 0x7e (value field) ∷ [])
+lotFaults field = fieldFaults lotRow field
 
--- 03 amount: 4 bytes, high first, 1 to 1,000,000 microlitres
+-- 03 amount: high first, 1 to 1,000,000 microlitres; a wrong amount, 22
 unfoldable pub amountOf : List ℕ → ℕ
-amountOf field = pairAt field 3 * 65536 + pairAt field 5
+amountOf field = twoBytes field 3 * 65536 + twoBytes field 5
 
 unfoldable pub amountFaults : List ℕ → List Fault
-amountFaults field = headFaults 0x03 4 4 field ++ (22 given outside 1 1000000 (amountOf field) ∷ [])
+amountFaults field = fieldFaults amountRow field ++ (22 given outside 1 1000000 (amountOf field) ∷ [])
 
--- 7F seal: length 4 to 19; bytes after the seal, 24
+-- 7F seal: bytes after the seal, 24
 unfoldable pub sealFaults : List ℕ → List Fault
-sealFaults field = headFaults 0x7f 4 19 field ++ (24 given ltb (endOf field) (length field) ∷ [])
+sealFaults field = fieldFaults sealRow field ++ (24 given ltb (endOf field) (length field) ∷ [])
 
 -- ---- in the order of the fields
 unfoldable pub layoutFaults : List ℕ → List Fault
 layoutFaults s = expiryFaults s ++ (lotFaults (lotField s) ++ (amountFaults (amountField s) ++ sealFaults (sealField s)))
+
+-- where the fields stand, and the first refusal
+unfoldable pub layoutOf : List ℕ → Layout
+layoutOf s = record { places = placesOf s; refusal = firstOf (layoutFaults s) }

@@ -1,3 +1,4 @@
+pub mod Format
 pub mod Field
 pub mod Date
 pub mod Layout

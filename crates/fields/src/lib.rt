@@ -1,19 +1,67 @@
-// The four fields of a lot slip, judged before any key is looked at: refusals 20 to 24. A field is read from what is left of the
-// slip, and a byte that is not there counts as 0, so that every function here answers every slice.
+// The four fields of a lot slip, judged before any key is looked at: refusals 20 to 24. What each field may hold is one row of the
+// format. A field is read from what is left of the slip, and a byte that is not there counts as 0, so that every slice is answered.
 ghost use mathlib.Core.Path.{_≡_};
-ghost use mathlib.Core.Bool.{_||_};
 ghost use Prim.Native.Nat.{_+_, _-_, _*_, _≤_, _<_};
 ghost use lib.ListN.{length, getD};
 ghost use Rattle.bits.specs.Choice.{firstOf};
-ghost use Rattle.fields.specs.Field.{outside, anyOutside, pairAt, lengthOf, value, endOf, headFaults};
+ghost use Rattle.fields.specs.Field.{outside, anyOutside, twoBytes, lengthOf, endOf, fieldFaults};
 ghost use Rattle.fields.specs.Date.{daysIn, dateWrong, digitAt, twoDigits, yearOf, monthOf, dayOf};
-ghost use Rattle.fields.specs.Layout.{placesOf, amountOf, expiryFaults, lotFaults, amountFaults, sealFaults, layoutFaults};
+ghost use Rattle.fields.specs.Layout.{placesOf, layoutOf, amountOf, expiryFaults, amountFaults, sealFaults, layoutFaults};
+
+// What a field may hold: its label, the least and the most bytes of its value, and the lowest and the highest that each may be.
+pub struct Row {
+    pub label: usize,
+    pub least: usize,
+    pub most: usize,
+    pub low: usize,
+    pub high: usize,
+}
+
+// ---- the format
+
+const EXPIRY_ROW: Row = Row {
+    label: 0x01,
+    least: 8,
+    most: 8,
+    low: 0x30,
+    high: 0x39,
+};
+
+const LOT_ROW: Row = Row {
+    label: 0x02,
+    least: 1,
+    most: 32,
+    low: 0x21,
+    high: 0x7E,
+};
+
+const AMOUNT_ROW: Row = Row {
+    label: 0x03,
+    least: 4,
+    most: 4,
+    low: 0x00,
+    high: 0xFF,
+};
+
+const SEAL_ROW: Row = Row {
+    label: 0x7F,
+    least: 4,
+    most: 19,
+    low: 0x00,
+    high: 0xFF,
+};
 
 // Where the fields 02, 03 and 7F begin.
 pub struct Places {
     pub lot: usize,
     pub amount: usize,
     pub seal: usize,
+}
+
+// Where they begin, and the first refusal of the slip's fields, 0 where there is none.
+pub struct Layout {
+    pub places: Places,
+    pub refusal: usize,
 }
 
 // Days of the months: a row for common years, a row for leap years.
@@ -34,9 +82,9 @@ pub fn byte_at(s: &[u8], i: usize) -> usize
 }
 
 // Two bytes as a number, high byte first.
-fn pair(s: &[u8], i: usize) -> usize
+fn two_bytes(s: &[u8], i: usize) -> usize
     requires { ⌜ i < 256 ⌝ }
-    ensures { λ r. ⌜ (r ≡ pairAt (now (s .entry)) i) × (r < 65536) ⌝ }
+    ensures { λ r. ⌜ (r ≡ twoBytes (now (s .entry)) i) × (r < 65536) ⌝ }
 {
     byte_at(s, i) * 256 + byte_at(s, i + 1)
 }
@@ -70,39 +118,33 @@ fn any_outside(least: usize, most: usize, s: &[u8]) -> bool
 fn end_of(field: &[u8]) -> usize
     ensures { λ r. ⌜ (r ≡ endOf (now (field .entry))) × (r ≤ length (now (field .entry))) ⌝ }
 {
-    let end = 3 + pair(field, 1);
+    let end = 3 + two_bytes(field, 1);
     if field.len() < end {
         return field.len();
     }
     end
 }
 
-// Whether some byte of a field's value is outside.
-fn value_outside(least: usize, most: usize, field: &[u8]) -> bool
-    ensures { λ r. ⌜ r ≡ anyOutside least most (value (now (field .entry))) ⌝ }
-{
-    let end = end_of(field);
-    if end < 3 {
-        return false;
-    }
-    any_outside(least, most, &field[3..end])
-}
-
-fn head_refusal(tag: usize, least: usize, most: usize, field: &[u8]) -> usize
-    ensures { λ r. ⌜ r ≡ firstOf (headFaults tag least most (now (field .entry))) ⌝ }
+// The refusal of a field that its row gives, and 0 where there is none.
+fn field_refusal(row: Row, field: &[u8]) -> usize
+    ensures { λ r. ⌜ r ≡ firstOf (fieldFaults row (now (field .entry))) ⌝ }
 {
     if field.len() < 3 {
         return 20;
     }
-    if byte_at(field, 0) != tag {
+    if byte_at(field, 0) != row.label {
         return 21;
     }
-    let length = pair(field, 1);
-    if outside(least, most, length) {
+    let length = two_bytes(field, 1);
+    if outside(row.least, row.most, length) {
         return 22;
     }
     if field.len() - 3 < length {
         return 20;
+    }
+    let end = 3 + length;
+    if any_outside(row.low, row.high, &field[3..end]) {
+        return 22;
     }
     0
 }
@@ -172,12 +214,9 @@ fn date_wrong(year: usize, month: usize, day: usize) -> bool
 fn expiry_refusal(field: &[u8]) -> usize
     ensures { λ r. ⌜ r ≡ firstOf (expiryFaults (now (field .entry))) ⌝ }
 {
-    let no = head_refusal(0x01, 8, 8, field);
+    let no = field_refusal(EXPIRY_ROW, field);
     if no != 0 {
         return no;
-    }
-    if value_outside(0x30, 0x39, field) {
-        return 22;
     }
     if date_wrong(year(field), month(field), day(field)) {
         return 23;
@@ -187,36 +226,23 @@ fn expiry_refusal(field: &[u8]) -> usize
 
 // ---- the lot, the amount, the seal
 
-fn lot_refusal(field: &[u8]) -> usize
-    ensures { λ r. ⌜ r ≡ firstOf (lotFaults (now (field .entry))) ⌝ }
-{
-    let no = head_refusal(0x02, 1, 32, field);
-    if no != 0 {
-        return no;
-    }
-    if value_outside(0x21, 0x7E, field) {
-        return 22;
-    }
-    0
-}
-
 // The bytes of the lot.
 pub fn lot_length(field: &[u8]) -> usize
     ensures { λ r. ⌜ r ≡ lengthOf (now (field .entry)) ⌝ }
 {
-    pair(field, 1)
+    two_bytes(field, 1)
 }
 
 pub fn amount(field: &[u8]) -> usize
     ensures { λ r. ⌜ r ≡ amountOf (now (field .entry)) ⌝ }
 {
-    pair(field, 3) * 65536 + pair(field, 5)
+    two_bytes(field, 3) * 65536 + two_bytes(field, 5)
 }
 
 fn amount_refusal(field: &[u8]) -> usize
     ensures { λ r. ⌜ r ≡ firstOf (amountFaults (now (field .entry))) ⌝ }
 {
-    let no = head_refusal(0x03, 4, 4, field);
+    let no = field_refusal(AMOUNT_ROW, field);
     if no != 0 {
         return no;
     }
@@ -229,7 +255,7 @@ fn amount_refusal(field: &[u8]) -> usize
 fn seal_refusal(field: &[u8]) -> usize
     ensures { λ r. ⌜ r ≡ firstOf (sealFaults (now (field .entry))) ⌝ }
 {
-    let no = head_refusal(0x7F, 4, 19, field);
+    let no = field_refusal(SEAL_ROW, field);
     if no != 0 {
         return no;
     }
@@ -241,7 +267,7 @@ fn seal_refusal(field: &[u8]) -> usize
 
 // ---- the slip
 
-pub fn field_places(slip: &[u8]) -> Places
+fn field_places(slip: &[u8]) -> Places
     ensures { λ r. ⌜ r ≡ placesOf (now (slip .entry)) ⌝ }
 {
     let lot = end_of(slip);
@@ -251,10 +277,10 @@ pub fn field_places(slip: &[u8]) -> Places
 }
 
 // The first refusal of 20 to 24, and 0 where there is none.
-pub fn layout_refusal(slip: &[u8]) -> usize
+fn layout_refusal(slip: &[u8], at: Places) -> usize
+    requires { ⌜ at ≡ placesOf (now slip) ⌝ }
     ensures { λ r. ⌜ r ≡ firstOf (layoutFaults (now (slip .entry))) ⌝ }
 {
-    let at = field_places(slip);
     let lot = at.lot;
     let amount = at.amount;
     let seal = at.seal;
@@ -262,7 +288,7 @@ pub fn layout_refusal(slip: &[u8]) -> usize
     if in_expiry != 0 {
         return in_expiry;
     }
-    let in_lot = lot_refusal(&slip[lot..]);
+    let in_lot = field_refusal(LOT_ROW, &slip[lot..]);
     if in_lot != 0 {
         return in_lot;
     }
@@ -271,4 +297,13 @@ pub fn layout_refusal(slip: &[u8]) -> usize
         return in_amount;
     }
     seal_refusal(&slip[seal..])
+}
+
+// Where the fields stand, found once, and the first refusal of 20 to 24.
+pub fn laid_out(slip: &[u8]) -> Layout
+    ensures { λ r. ⌜ r ≡ layoutOf (now (slip .entry)) ⌝ }
+{
+    let places = field_places(slip);
+    let refusal = layout_refusal(slip, places);
+    Layout { places, refusal }
 }

@@ -36,7 +36,7 @@ module _ (C : Cipher) (A : Algorithm) (M : Method) (K : Keys) where
   fullBytes x = tagBytes (full C A M K x)
 
   pub record Promised : Type 0 where
-    pub calls : (m : ℕ) (x : Bits) → row A .least ≤ blockCount M n (length x) → length (callsOf C A M K m x) ≡ blockCount M n (length x) + row A .more
+    pub calls : (m : ℕ) (x : Bits) → row A .least ≤ blockCount M n (length x) → length (callsOf C A M K m x) ≡ blockCount M n (length x) + row A .further
     pub session : (m : ℕ) (xs : List Bits) → closed C A M K m (length (joined xs)) (fedAll C A M K (opened C A M K (length (joined xs))) xs) ≡ mac C A M K m (joined xs)
     -- demand 3 (a) and (b)
     pub differs : OneBlockDiffers C A M K

@@ -48,9 +48,7 @@ fn make(bytes: &draw::Bytes, size: usize, room: &mut [u8]) -> [u8; 16] {
     }
     let s = draw::drawn(bytes);
     let made = slipseal::slipseal_make(
-        s.algorithm,
-        s.padding,
-        s.m,
+        draw::agreement(s),
         draw::part(bytes, 16, s.key_bytes),
         message(bytes),
         bits(bytes),
@@ -70,9 +68,7 @@ fn check(bytes: &draw::Bytes, made: [u8; 16]) {
     let place = wide(bytes[10]) % 16;
     tag[place] = tag[place] ^ (bytes[11] / 180 % 2 * 255 & bytes[180]);
     let checked = slipseal::slipseal_check(
-        s.algorithm,
-        s.padding,
-        s.m,
+        draw::agreement(s),
         draw::part(bytes, 16, s.key_bytes),
         message(bytes),
         bits(bytes),

@@ -10,6 +10,14 @@ pub(crate) struct Settings {
     pub(crate) key_bytes: usize,
 }
 
+pub(crate) fn agreement(s: Settings) -> settings::Agreement {
+    settings::Agreement {
+        algorithm: s.algorithm,
+        padding: s.padding,
+        m: s.m,
+    }
+}
+
 // The next state: 64 bits, shifted and xored three times.
 fn next(x: usize) -> usize {
     let a = x ^ (x << 13);

@@ -4,7 +4,7 @@ use crate::calls;
 use crate::draw;
 use crate::print;
 use draw::wide;
-use slipseal::Record;
+use slipseal::Session;
 
 // The bits of a piece of so many bytes: from 240 on eight too many, from 210 on some bits of the last byte left out.
 fn piece_bits(kind: usize, count: usize, value: usize) -> usize {
@@ -21,8 +21,22 @@ fn piece_bits(kind: usize, count: usize, value: usize) -> usize {
     whole - value % 8
 }
 
+fn agreement_forged(came: settings::Agreement, kind: usize, value: usize) -> settings::Agreement {
+    let mut a = came;
+    if kind < 9 {
+        a.algorithm = value % 10;
+        return a;
+    }
+    if kind < 12 {
+        a.padding = value % 6;
+        return a;
+    }
+    a.m = value;
+    a
+}
+
 // The record with another field, for a kind below 30.
-fn forged(came: Record, kind: usize, value: usize) -> Record {
+fn forged(came: Session, kind: usize, value: usize) -> Session {
     if 30 <= kind {
         return came;
     }
@@ -35,16 +49,10 @@ fn forged(came: Record, kind: usize, value: usize) -> Record {
         r.part = value % 9;
         return r;
     }
-    if kind < 9 {
-        r.algorithm = value % 10;
-        return r;
-    }
-    if kind < 12 {
-        r.padding = value % 6;
-        return r;
-    }
     if kind < 15 {
-        r.m = value;
+        let agreement = r.agreement;
+        let other = agreement_forged(agreement, kind, value);
+        r.agreement = other;
         return r;
     }
     if kind < 18 {
@@ -63,7 +71,7 @@ fn forged(came: Record, kind: usize, value: usize) -> Record {
 }
 
 // The record with another byte of its waiting block or of its chain value.
-fn blocks_forged(came: Record, kind: usize, value: usize) -> Record {
+fn blocks_forged(came: Session, kind: usize, value: usize) -> Session {
     let mut r = came;
     let byte = (value % 256) as u8;
     if kind < 28 {
@@ -79,7 +87,7 @@ fn blocks_forged(came: Record, kind: usize, value: usize) -> Record {
 }
 
 // Piece j, 0 to 4: its kind, its bytes and a value by the bytes from 160 + 4 j on, what it holds by those from 48 + 16 j on.
-fn step(came: Record, bytes: &draw::Bytes, j: usize) -> Record {
+fn step(came: Session, bytes: &draw::Bytes, j: usize) -> Session {
     let at = j % 5 * 4 + 160;
     let kind = wide(bytes[at]);
     let count = wide(bytes[at + 1]) % 41;
@@ -96,7 +104,7 @@ fn step(came: Record, bytes: &draw::Bytes, j: usize) -> Record {
     out.session
 }
 
-fn steps(begun: Record, bytes: &draw::Bytes) -> Record {
+fn steps(begun: Session, bytes: &draw::Bytes) -> Session {
     let mut r = begun;
     let mut j = 0;
     while j < 5 {
@@ -108,8 +116,9 @@ fn steps(begun: Record, bytes: &draw::Bytes) -> Record {
 }
 
 // The bits that are missing of the declared length, where it is read and they are at most 768.
-fn missing(r: Record) -> usize {
-    if r.padding != 3 {
+fn missing(r: Session) -> usize {
+    let agreement = r.agreement;
+    if agreement.padding != 3 {
         return 0;
     }
     if r.declared < r.total {
@@ -125,9 +134,7 @@ fn missing(r: Record) -> usize {
 pub(crate) fn run(bytes: &draw::Bytes) {
     let s = draw::drawn(bytes);
     let begun = slipseal::slipseal_start(
-        s.algorithm,
-        s.padding,
-        s.m,
+        draw::agreement(s),
         draw::part(bytes, 16, s.key_bytes),
         wide(bytes[7]) * 3,
     );
@@ -144,7 +151,7 @@ pub(crate) fn run(bytes: &draw::Bytes) {
     finish(fed_whole, calls::room_bytes(wide(bytes[8])), &mut room);
 }
 
-fn finish(came: Record, size: usize, room: &mut [u8]) {
+fn finish(came: Session, size: usize, room: &mut [u8]) {
     if room.len() < size {
         return;
     }
@@ -154,5 +161,6 @@ fn finish(came: Record, size: usize, room: &mut [u8]) {
     let answer = out.answer;
     print::number(answer.number);
     print::number(answer.calls);
-    calls::print_room(answer.number, came.m, room);
+    let agreement = came.agreement;
+    calls::print_room(answer.number, agreement.m, room);
 }

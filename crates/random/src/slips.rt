@@ -41,9 +41,7 @@ fn length(sealed: usize, kind: usize, value: usize) -> usize {
 fn tag_of(s: draw::Settings, bytes: &draw::Bytes, slip: &Slip) -> [u8; 16] {
     let mut tag = [0u8; 16];
     slipseal::slipseal_make(
-        s.algorithm,
-        s.padding,
-        s.m,
+        draw::agreement(s),
         draw::part(bytes, 16, s.key_bytes),
         draw::part(slip, 0, 27),
         216,
@@ -94,6 +92,6 @@ fn read(slip: &Slip, kept: usize, keys: &[u8]) {
     print::number(answer.day);
     print::number(answer.amount);
     print::number(answer.calls);
-    print::number(answer.place);
-    print::number(answer.length);
+    print::number(answer.lot_at);
+    print::number(answer.lot_len);
 }

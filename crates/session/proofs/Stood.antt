@@ -3,30 +3,36 @@
 -- Assumes nothing.
 use mathlib.Core.Path.{_≡_, refl, sym, ap, ap₂, _∙_, subst}
 use mathlib.Core.Bool.{false, not}
-use mathlib.Core.List.{List, [], _++_}
-use Prim.Native.Nat.{ℕ, zero, suc, _≤_, _<_}
+use mathlib.Core.List.{List, [], _++_, append-nil}
+use Prim.Native.Nat.{ℕ, zero, suc, _+_, _≤_, _<_}
 use native.Mathlib.Nat.{zero-add}
 use native.Mathlib.Omega.{arith}
-use lib.ListN.{length, drop, length-append}
-use lib.Seq.{take-all}
+use lib.ListN.{length, length-append}
 use Rattle.bits.specs.Choice.{pick}
-use Rattle.bits.specs.Str.{Bits, bytesBits, leftmost, filled}
+use Rattle.bits.specs.Str.{Bits, bytesBits, leftmost}
 use Rattle.bits.proofs.Strings.{sameB-true}
-use Rattle.block.specs.Block.{filledBlock, front}
+use Rattle.block.specs.Block.{filledBlock}
 use Rattle.mac.specs.Run.{Run}
-use Rattle.mac.specs.Padding.{Method, methodAt, prefix, blockCount}
+use Rattle.mac.specs.declared.Row.{Row}
+use Rattle.mac.specs.Padding.{Method, methodAt, prefix, suffix, complete, blockCount}
 use Rattle.mac.specs.Algorithm.{Algorithm, algorithmAt, row, Keys, Steps, steps}
-use Rattle.mac.specs.Tag.{tagOf, callsOf}
-use Rattle.mac.specs.Session.{State, absorb, opened, fed, closed}
+use Rattle.mac.specs.Tag.{tagOf, callsOf, blockBytes}
+use Rattle.mac.specs.Session.{State, absorb, finish, opened, fed, closed}
 use Rattle.cipher.specs.Cipher.{Cipher}
 use Rattle.cipher.specs.Ciphers.{cipherAt}
-use Rattle.cipher.proofs.Laws.{lawful-at}
+use Rattle.cipher.proofs.Laws.{lawful-at, width-at}
 use Rattle.mac.proofs.Absorbing.{absorb-append, absorb-fits, one-piece, opened-held}
+use Rattle.mac.proofs.TagBytes.{blockBytes-bits}
 use Rattle.mac.proofs.Promised.{Promised, promised-at}
-use Rattle.settings.specs.Keys.{keysOf}
-use Rattle.chain.specs.Chain.{heldBits}
-use Rattle.chain.proofs.Standing.{quiet, absorb-quiet, Reached, read-back, reached-next, reached-opened, keeps, closes}
-use Rattle.session.specs.Record.{SessionBits, stateIn, phaseAt, standing, strayBit}
+use Rattle.keys.specs.Given.{keysOf, givenOf}
+use Rattle.keys.proofs.GivenKeys.{given-keys}
+use Rattle.settings.specs.declared.Agreement.{Agreement}
+use Rattle.chain.specs.declared.Hold.{Hold}
+use Rattle.chain.specs.Chain.{heldBits, stateAt, holdOf}
+use Rattle.chain.proofs.Feeding.{held-le}
+use Rattle.chain.proofs.Standing.{quiet, absorb-quiet, Reached, stands, reached-next, reached-opened, keeps, closes}
+use Rattle.session.specs.declared.Session.{Session}
+use Rattle.session.specs.Record.{stateIn, phaseAt, standing, strayBit}
 use Rattle.session.specs.Calls.{freshOf, declaredAt, fedOf, tagIn, callsIn}
 
 abbrev C : Cipher
@@ -48,9 +54,15 @@ opened-alike A K (suc (suc (suc zero))) d e h = ap (opened C A (methodAt 3) K) (
 opened-alike A K (suc (suc (suc (suc zero)))) d e h = refl
 opened-alike A K (suc (suc (suc (suc (suc p))))) d e h = refl
 
-module _ (a p m : ℕ) (s : List ℕ) (d : ℕ) where
-  abbrev A : Algorithm
-  A = algorithmAt a
+module _ (A : Agreement) (s : List ℕ) (d : ℕ) where
+  abbrev a : ℕ
+  a = A .algorithm
+
+  abbrev p : ℕ
+  p = A .padding
+
+  abbrev B : Algorithm
+  B = algorithmAt a
 
   abbrev M : Method
   M = methodAt p
@@ -59,20 +71,20 @@ module _ (a p m : ℕ) (s : List ℕ) (d : ℕ) where
   K = keysOf s
 
   abbrev S : Steps
-  S = steps C A K .out
+  S = steps C B K .out
 
   -- the record that an accepted start hands out
-  abbrev fresh : SessionBits
-  fresh = freshOf a p m (bytesBits (front s)) (bytesBits (front (drop 16 s))) (declaredAt p d)
+  abbrev fresh : Session
+  fresh = freshOf A (givenOf s) K (declaredAt p d)
 
   -- the definition's state after x
   abbrev beginning : State
-  beginning = opened C A M K (declaredAt p d)
+  beginning = opened C B M K (declaredAt p d)
 
   abbrev after : Bits → State
   after x = absorb n S beginning x
 
-  unfoldable pub stood : Bits → SessionBits
+  unfoldable pub stood : Bits → Session
   stood x = standing fresh (length x) (after x)
 
   reached : (x : Bits) → Reached n p (length x) (after x)
@@ -80,39 +92,45 @@ module _ (a p m : ℕ) (s : List ℕ) (d : ℕ) where
 
   state-is : (x : Bits) → stateIn (stood x) ≡ quiet (after x)
   unfolding stood stateIn standing freshOf
-  state-is x = read-back n p (length x) (after x) (reached x)
+  state-is x = stands n p (length x) (after x) (width-at 1) (reached x)
+
+  -- the bits that wait, and zeros after them
+  held-bits : (x : Bits) → bytesBits (blockBytes (after x .held)) ≡ filledBlock (after x .held)
+  held-bits x = blockBytes-bits (after x .held) (omega (arith, reached x .long, held-le n (length x) some, width-at 1))
 
   -- no bit is set past those that wait
-  pub stood-clean : (x : Bits) → strayBit (heldBits n (length x)) (stood x .held) ≡ false
-  unfolding strayBit stood stateIn standing freshOf leftmost
-  stood-clean x = ap not (sameB-true _ _ (ap (λ (t : State). filledBlock (t .held)) (state-is x)))
+  pub stood-clean : (x : Bits) → strayBit (heldBits n (length x)) (bytesBits (stood x .hold .held)) ≡ false
+  unfolding strayBit stood stateIn stateAt standing freshOf holdOf leftmost
+  stood-clean x = ap not (sameB-true _ _ (ap (λ (t : State). filledBlock (t .held)) (state-is x) ∙ sym (held-bits x)))
 
   -- a piece
   pub stood-fed : (x y : Bits) → fedOf (stood x) y ≡ stood (x ++ y)
-  unfolding fedOf stood standing freshOf keysOf
+  unfolding fedOf stood standing freshOf holdOf
   stood-fed x y =
-      ap₂ (λ (l : ℕ) (t : State). standing fresh l (quiet (absorb n S t y))) (sym (length-append x y)) (state-is x)
+      ap (λ (k : Keys). standing fresh (length x + length y) (absorb n (steps C B k .out) (stateIn (stood x)) y)) (given-keys s)
+      ∙ ap₂ (λ (l : ℕ) (t : State). standing fresh l (quiet (absorb n S t y))) (sym (length-append x y)) (state-is x)
       ∙ ap (standing fresh (length (x ++ y))) (absorb-quiet n S (after x) y)
       ∙ ap (standing fresh (length (x ++ y))) (absorb-append n S beginning x y some)
 
   -- the start
   pub stood-fresh : fresh ≡ stood []
-  unfolding stood standing freshOf phaseAt pick filled keysOf
+  unfolding stood standing freshOf phaseAt pick
   stood-fresh =
-      ap (λ (w : Bits). standing fresh 0 (record { begun = beginning .begun; value = beginning .value; held = w })) (take-all 0 (beginning .held ++ []) (omega (arith, none)))
+      ap (λ (w : Bits). standing fresh 0 (record { begun = beginning .begun; value = beginning .value; held = w })) (sym (append-nil (beginning .held)))
       ∙ ap (standing fresh 0) (sym (absorb-fits n S beginning [] (omega (arith, none)) some))
     where
       none : length (beginning .held ++ []) ≡ 0
-      none = omega (arith, length-append (beginning .held) [], opened-held C (lawful-at 1) A M K (declaredAt p d))
+      none = omega (arith, length-append (beginning .held) [], opened-held C (lawful-at 1) B M K (declaredAt p d))
 
   -- the end
-  pub stood-tag : (x : Bits) → (p ≡ 3 → declaredAt p d ≡ length x) → tagIn (stood x) ≡ tagOf C A M K m x
-  unfolding tagIn stood standing freshOf keysOf tagOf fed
+  pub stood-tag : (x : Bits) → (p ≡ 3 → declaredAt p d ≡ length x) → tagIn (stood x) ≡ tagOf C B M K (A .m) x
+  unfolding tagIn stateIn stood standing freshOf tagOf fed
   stood-tag x h =
-      closes 1 a p K m (length x) (stateIn (stood x)) (after x) (state-is x)
-      ∙ ap (λ (t : State). closed C A M K m (length x) (fed C A M K t x) .out) (opened-alike A K p (declaredAt p d) (length x) h)
-      ∙ ap (λ (r : Run Bits). r .out) (one-piece C (lawful-at 1) A M K m x)
+      ap (λ (k : Keys). finish (steps C B k .out) (complete n (length x)) (A .m) (absorb n (steps C B k .out) (stateIn (stood x)) (suffix M n (length x))) .out) (given-keys s)
+      ∙ closes 1 a p K (A .m) (length x) (after x) (reached x)
+      ∙ ap (λ (t : State). closed C B M K (A .m) (length x) (fed C B M K t x) .out) (opened-alike B K p (declaredAt p d) (length x) h)
+      ∙ ap (λ (r : Run Bits). r .out) (one-piece C (lawful-at 1) B M K (A .m) x)
 
-  pub stood-calls : (x : Bits) → row A .least ≤ blockCount M n (length x) → callsIn (stood x) ≡ length (callsOf C A M K m x)
+  pub stood-calls : (x : Bits) → row B .least ≤ blockCount M n (length x) → callsIn (stood x) ≡ length (callsOf C B M K (A .m) x)
   unfolding callsIn stood standing freshOf
-  stood-calls x h = sym (promised-at 1 A M K .calls m x h)
+  stood-calls x h = sym (promised-at 1 B M K .calls (A .m) x h)

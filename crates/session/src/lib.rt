@@ -1,19 +1,18 @@
 // A session: the message comes in pieces, and the record goes from call to call by value. Each call judges the record and its own
 // input anew, so any record is answered; the work is the heart of crate chain.
 ghost use mathlib.Core.Path.{_≡_};
-ghost use mathlib.Core.Bool.{_&&_};
 ghost use Prim.Native.Nat.{_+_, _*_, _%_, _≤_, _<_};
 ghost use lib.ListN.{length};
-ghost use lib.Dec.{eqb};
-ghost use Rattle.bits.specs.Choice.{pick, firstOf};
+ghost use Rattle.bits.specs.Choice.{firstOf};
 ghost use Rattle.bits.specs.Str.{bytesBits};
 ghost use Rattle.block.specs.Block.{filledBlock};
-ghost use Rattle.mac.specs.Algorithm.{algorithmAt, row, keys};
+ghost use Rattle.cipher.specs.Ciphers.{tableAt};
 ghost use Rattle.mac.specs.Tag.{bitsOf};
-ghost use Rattle.settings.specs.Keys.{keyBits, keysOf};
-ghost use Rattle.tag.specs.OneCall.{tooManyBits};
-ghost use Rattle.session.specs.Record.{sessionBits, cleared, phaseAt, phaseUnfit, settingsUnsound, passesDeclared, strayBit, countsClosed};
-ghost use Rattle.session.specs.Calls.{stepBits, startFaults, freshOf, declaredAt, startOf, lateBits, pieceFaults, fedOf, pieceOf, fallsShort, finishFaults, tagIn, finishOf};
+ghost use Rattle.keys.specs.Given.{keyBits};
+ghost use Rattle.settings.specs.Answers.{settingsOf};
+ghost use Rattle.chain.specs.Chain.{roundsBits, roundsOf};
+ghost use Rattle.session.specs.Record.{cleared, phaseAt, phaseUnfit, settingsUnsound, passesDeclared, declaredTooLong, strayBit, countsClosed, keysIn};
+ghost use Rattle.session.specs.Calls.{refusedStart, freshOf, declaredAt, startUnder, startOf, lateBits, pieceFaults, fedOf, pieceOf, fallsShort, finishFaults, tagIn, finishOf};
 
 // Open at a byte edge, open after a part byte of 1 to 7 bits, or closed.
 pub enum Phase {
@@ -22,41 +21,43 @@ pub enum Phase {
     Part(usize),
 }
 
+// What was agreed, the declared length, the bits so far, the keys as they were given, and what the chain holds.
 pub struct Session {
     pub phase: Phase,
-    pub algorithm: usize,
-    pub padding: usize,
-    pub m: usize,
+    pub agreement: settings::Agreement,
     pub declared: usize,
     pub total: usize,
-    pub k: [u8; 16],
-    pub k1: [u8; 16],
-    pub chain: [u8; 16],
-    pub held: [u8; 16],
+    pub keys: [u8; 32],
+    pub hold: chain::Hold,
 }
 
 // What a call answers, and the session it hands back.
 pub struct Step {
-    pub answer: settings::Answer,
+    pub answer: settings::Outcome,
     pub session: Session,
 }
 
 // ---- the record
 
 fn closed_session() -> Session
-    ensures { λ r. ⌜ sessionBits r ≡ cleared ⌝ }
+    ensures { λ r. ⌜ r ≡ cleared ⌝ }
 {
-    Session {
-        phase: Phase::Closed,
+    let agreement = settings::Agreement {
         algorithm: 0,
         padding: 0,
         m: 0,
+    };
+    let hold = chain::Hold {
+        value: [0u8; 16],
+        held: [0u8; 16],
+    };
+    Session {
+        phase: Phase::Closed,
+        agreement,
         declared: 0,
         total: 0,
-        k: [0u8; 16],
-        k1: [0u8; 16],
-        chain: [0u8; 16],
-        held: [0u8; 16],
+        keys: [0u8; 32],
+        hold,
     }
 }
 
@@ -85,48 +86,31 @@ fn phase_unfit(phase: Phase, total: usize) -> bool
     }
 }
 
-// K, K' and K'' of K and K'.
-fn key_bytes(k: [u8; 16], k1: [u8; 16]) -> settings::KeyBytes
-    ensures { λ r. ⌜ keyBits r ≡ keys (bytesBits k) (bytesBits k1) ⌝ }
+fn settings_unsound(agreement: settings::Agreement, given: [u8; 32]) -> bool
+    ensures { λ r. ⌜ r ≡ settingsUnsound agreement given ⌝ }
 {
-    let k2 = block::every_second(k1);
-    settings::KeyBytes { k, k1, k2 }
+    let keys = keys::unpack(&given);
+    settings::refusal(agreement, keys::bytes_of(agreement.algorithm), keys) != 0
 }
 
-// How many key bytes an algorithm takes.
-fn key_length(algorithm: usize) -> usize
-    ensures { λ r. ⌜ r ≡ pick (row (algorithmAt algorithm) .two) 32 16 ⌝ }
+// Whether so many bits after others pass the declared length, with no sum that could wrap.
+fn passes_declared(padding: usize, declared: usize, total: usize, bits: usize) -> bool
+    ensures { λ r. ⌜ r ≡ passesDeclared padding declared (total + bits) ⌝ }
 {
-    if settings::two_keys(algorithm) {
-        return 32;
+    if padding != 3 {
+        return false;
     }
-    16
-}
-
-fn settings_unsound(s: Session) -> bool
-    ensures { λ r. ⌜ r ≡ settingsUnsound (sessionBits s) ⌝ }
-{
-    let k = s.k;
-    let k1 = s.k1;
-    let u = key_bytes(k, k1);
-    let algorithm = s.algorithm;
-    settings::refusal(algorithm, s.padding, s.m, key_length(algorithm), u) != 0
-}
-
-fn passes_declared(padding: usize, declared: usize, total: usize) -> bool
-    ensures { λ r. ⌜ r ≡ passesDeclared padding declared total ⌝ }
-{
-    if padding == 3 {
-        return declared < total;
+    if declared < total {
+        return true;
     }
-    false
+    declared - total < bits
 }
 
 fn declared_too_long(padding: usize, declared: usize) -> bool
-    ensures { λ r. ⌜ r ≡ eqb padding 3 && tooManyBits declared ⌝ }
+    ensures { λ r. ⌜ r ≡ declaredTooLong padding declared ⌝ }
 {
     if padding == 3 {
-        return tag::too_many_bits(declared);
+        return message::too_many_bits(declared);
     }
     false
 }
@@ -139,52 +123,36 @@ fn stray_bit(n: usize, held: [u8; 16]) -> bool
 
 // Whether a record counts as closed.
 fn counts_closed(s: Session) -> bool
-    ensures { λ r. ⌜ r ≡ countsClosed (sessionBits s) ⌝ }
+    ensures { λ r. ⌜ r ≡ countsClosed s ⌝ }
 {
     let phase = s.phase;
-    let held = s.held;
-    let padding = s.padding;
-    let declared = s.declared;
-    let total = s.total;
-    if phase_unfit(phase, total) {
-        return true;
-    }
-    if settings_unsound(s) {
-        return true;
-    }
-    if tag::too_many_bits(total) {
-        return true;
-    }
-    if declared_too_long(padding, declared) {
-        return true;
-    }
-    if passes_declared(padding, declared, total) {
-        return true;
-    }
-    stray_bit(chain::held_bits(cipher::SM4, total), held)
+    let agreement = s.agreement;
+    let padding = agreement.padding;
+    let keys = s.keys;
+    let hold = s.hold;
+    let held = hold.held;
+    let there = [
+        phase_unfit(phase, s.total),
+        settings_unsound(agreement, keys),
+        message::too_many_bits(s.total),
+        declared_too_long(padding, s.declared),
+        passes_declared(padding, s.declared, s.total, 0),
+        stray_bit(chain::held_bits(cipher::SM4, s.total), held),
+    ];
+    bits::first(&[11, 11, 11, 11, 11, 11], &there) != 0
 }
 
 // ---- start
 
-fn start_refusal(
-    algorithm: usize,
-    padding: usize,
-    m: usize,
-    keys: &[u8],
-    u: settings::KeyBytes,
-    declared: usize,
-) -> usize
-    requires { ⌜ keyBits u ≡ keysOf (now keys) ⌝ }
-    ensures { λ r. ⌜ r ≡ firstOf (startFaults algorithm padding m (now (keys .entry)) declared) ⌝ }
+// A refused start: its number, and a closed record.
+fn refused_start(number: usize) -> Step
+    ensures { λ r. ⌜ r ≡ refusedStart number ⌝ }
 {
-    let no = settings::refusal(algorithm, padding, m, keys.len(), u);
-    if no != 0 {
-        return no;
+    let shut = closed_session();
+    Step {
+        answer: settings::Outcome::Refused(number),
+        session: shut,
     }
-    if declared_too_long(padding, declared) {
-        return 8;
-    }
-    0
 }
 
 fn declared_at(padding: usize, declared: usize) -> usize
@@ -197,53 +165,79 @@ fn declared_at(padding: usize, declared: usize) -> usize
 }
 
 fn fresh(
-    algorithm: usize,
-    padding: usize,
-    m: usize,
-    u: settings::KeyBytes,
+    agreement: settings::Agreement,
+    s: settings::Settings,
+    given: [u8; 32],
+    keys: keys::KeyBlocks,
     declared: usize,
 ) -> Session
-    requires { ⌜ (declared ≤ 8388608) × (keyBits u ≡ keys (bytesBits (u .k)) (bytesBits (u .k1))) ⌝ }
-    ensures { λ r. ⌜ sessionBits r ≡ freshOf algorithm padding m (bytesBits (u .k)) (bytesBits (u .k1)) declared ⌝ }
+    requires { ⌜ (s ≡ settingsOf agreement) × (declared ≤ 8388608) ⌝ }
+    ensures { λ r. ⌜ r ≡ freshOf agreement given (keyBits keys) declared ⌝ }
 {
-    let k = u.k;
-    let k1 = u.k1;
-    let k2 = u.k2;
     let t = cipher::table(cipher::SM4);
-    let rounds = chain::expand(&t, cipher::SM4, algorithm, k, k1, k2);
-    let begun = chain::begin(&t, cipher::SM4, algorithm, padding, rounds, declared as u32);
+    let rounds = chain::expand(&t, cipher::SM4, s.algorithm, keys);
+    let k = chain::Keyed {
+        cipher: cipher::SM4,
+        settings: s,
+        rounds,
+    };
+    let hold = chain::begin(&t, k, declared as u32);
     Session {
         phase: Phase::Edge,
-        algorithm,
-        padding,
-        m,
+        agreement,
         declared,
         total: 0,
-        k,
-        k1,
-        chain: begun,
-        held: [0u8; 16],
+        keys: given,
+        hold,
+    }
+}
+
+// A session begins under the settings of an agreement that was found sound.
+fn start_under(
+    agreement: settings::Agreement,
+    s: settings::Settings,
+    given: [u8; 32],
+    keys: keys::KeyBlocks,
+    declared: usize,
+) -> Step
+    requires { ⌜ s ≡ settingsOf agreement ⌝ }
+    ensures { λ r. ⌜ r ≡ startUnder agreement given (keyBits keys) declared ⌝ }
+{
+    let padding = agreement.padding;
+    if declared_too_long(padding, declared) {
+        return refused_start(8);
+    }
+    let first = fresh(agreement, s, given, keys, declared_at(padding, declared));
+    Step {
+        answer: settings::Outcome::Accepted,
+        session: first,
     }
 }
 
 // A session begins; declared is the message's bit length, read with padding 3 only.
-pub fn start(algorithm: usize, padding: usize, m: usize, keys: &[u8], declared: usize) -> Step
-    ensures { λ r. ⌜ stepBits r ≡ startOf algorithm padding m (now (keys .entry)) declared ⌝ }
+pub fn start(agreement: settings::Agreement, keys: &[u8], declared: usize) -> Step
+    ensures { λ r. ⌜ r ≡ startOf agreement (now (keys .entry)) declared ⌝ }
 {
-    let u = settings::unpack(keys);
-    let no = start_refusal(algorithm, padding, m, keys, u, declared);
-    if no != 0 {
-        let shut = closed_session();
-        return Step {
-            answer: settings::Answer::Refused(no),
-            session: shut,
-        };
+    let unpacked = keys::unpack(keys);
+    let checked = settings::Settings::checked(agreement, keys.len(), unpacked);
+    match checked {
+        settings::Checked::Unsound(no) => refused_start(no),
+        settings::Checked::Sound(s) => {
+            start_under(agreement, s, keys::kept(keys), unpacked, declared)
+        }
     }
-    let first = fresh(algorithm, padding, m, u, declared_at(padding, declared));
-    Step {
-        answer: settings::Answer::Accepted,
-        session: first,
-    }
+}
+
+// ---- an open session
+
+// The round keys of its keys.
+fn rounds_of(t: &cipher::Table, s: Session) -> chain::Rounds
+    requires { ⌜ now t ≡ tableAt 1 ⌝ }
+    ensures { λ r. ⌜ roundsBits r ≡ roundsOf 1 (s .agreement .algorithm) (keysIn s) ⌝ }
+{
+    let given = s.keys;
+    let keys = keys::unpack(&given);
+    chain::expand(t, cipher::SM4, s.agreement.algorithm, keys)
 }
 
 // ---- piece
@@ -257,79 +251,44 @@ fn late_bits(total: usize, bits: usize) -> bool
     total % 8 != 0
 }
 
-// Whether so many more bits are too many, with no sum that could wrap.
-fn too_many_more(total: usize, bits: usize) -> bool
-    requires { ⌜ total ≤ 8388608 ⌝ }
-    ensures { λ r. ⌜ r ≡ tooManyBits (total + bits) ⌝ }
-{
-    settings::Settings::MOST_BITS - total < bits
-}
-
 fn piece_refusal(s: Session, length: usize, bits: usize) -> usize
-    ensures { λ r. ⌜ r ≡ firstOf (pieceFaults (sessionBits s) length bits) ⌝ }
+    ensures { λ r. ⌜ r ≡ firstOf (pieceFaults s length bits) ⌝ }
 {
-    let padding = s.padding;
-    let declared = s.declared;
-    let total = s.total;
-    if counts_closed(s) {
-        return 11;
-    }
-    if late_bits(total, bits) {
-        return 11;
-    }
-    if tag::length_wrong(length, bits) {
-        return 7;
-    }
-    if too_many_more(total, bits) {
-        return 8;
-    }
-    if passes_declared(padding, declared, total + bits) {
-        return 12;
-    }
-    0
+    let agreement = s.agreement;
+    let there = [
+        counts_closed(s),
+        late_bits(s.total, bits),
+        message::length_wrong(length, bits),
+        message::too_many_more(s.total, bits),
+        passes_declared(agreement.padding, s.declared, s.total, bits),
+    ];
+    bits::first(&[11, 11, 7, 8, 12], &there)
 }
 
 // The bits of a piece go into an open session.
 fn fed(s: Session, bytes: &[u8], bits: usize) -> Session
     requires { ⌜ (bits ≤ 8 * length (now bytes)) × (0 < bits → s .total % 8 ≡ 0) × (s .total + bits ≤ 8388608) ⌝ }
-    ensures { λ r. ⌜ sessionBits r ≡ fedOf (sessionBits s) (bitsOf (now (bytes .entry)) bits) ⌝ }
+    ensures { λ r. ⌜ r ≡ fedOf s (bitsOf (now (bytes .entry)) bits) ⌝ }
 {
-    let algorithm = s.algorithm;
-    let padding = s.padding;
-    let k = s.k;
-    let k1 = s.k1;
-    let u = key_bytes(k, k1);
-    let k2 = u.k2;
-    let chain = s.chain;
-    let held = s.held;
     let t = cipher::table(cipher::SM4);
-    let rounds = chain::expand(&t, cipher::SM4, algorithm, k, k1, k2);
-    let next = chain::feed(
-        &t,
-        cipher::SM4,
-        algorithm,
-        padding,
-        rounds,
-        chain::Hold { chain, held },
-        s.total,
-        bytes,
-        bits,
-    );
+    let agreement = s.agreement;
+    let k = chain::Keyed {
+        cipher: cipher::SM4,
+        settings: settings::Settings::of(agreement),
+        rounds: rounds_of(&t, s),
+    };
+    let hold = s.hold;
+    let next = chain::feed(&t, k, hold, s.total, bytes, bits);
     let total = s.total + bits;
     let phase = phase_at(total);
-    let value = next.chain;
-    let waiting = next.held;
+    let keys = s.keys;
     Session {
         phase,
-        algorithm,
-        padding,
-        m: s.m,
+        agreement,
         declared: s.declared,
         total,
-        k,
-        k1,
-        chain: value,
-        held: waiting,
+        keys,
+        hold: next,
     }
 }
 
@@ -345,87 +304,71 @@ fn falls_short(padding: usize, declared: usize, total: usize) -> bool
 }
 
 fn finish_refusal(s: Session, room: usize) -> usize
-    ensures { λ r. ⌜ r ≡ firstOf (finishFaults (sessionBits s) room) ⌝ }
+    ensures { λ r. ⌜ r ≡ firstOf (finishFaults s room) ⌝ }
 {
-    let algorithm = s.algorithm;
-    let padding = s.padding;
-    let total = s.total;
-    if counts_closed(s) {
-        return 11;
-    }
-    if falls_short(padding, s.declared, total) {
-        return 12;
-    }
-    if tag::too_few_blocks(algorithm, padding, total) {
-        return 9;
-    }
-    if tag::room_short(s.m, room) {
-        return 10;
-    }
-    0
+    let agreement = s.agreement;
+    let there = [
+        counts_closed(s),
+        falls_short(agreement.padding, s.declared, s.total),
+        message::too_few_blocks(settings::Settings::of(agreement), s.total),
+        message::room_short(agreement.m, room),
+    ];
+    bits::first(&[11, 12, 9, 10], &there)
 }
 
 // The tag of an open session, and zeros after it.
 fn tag_block(s: Session) -> [u8; 16]
-    ensures { λ r. ⌜ bytesBits r ≡ filledBlock (tagIn (sessionBits s)) ⌝ }
+    ensures { λ r. ⌜ bytesBits r ≡ filledBlock (tagIn s) ⌝ }
 {
-    let algorithm = s.algorithm;
-    let k = s.k;
-    let k1 = s.k1;
-    let u = key_bytes(k, k1);
-    let k2 = u.k2;
-    let chain = s.chain;
-    let held = s.held;
     let t = cipher::table(cipher::SM4);
-    let rounds = chain::expand(&t, cipher::SM4, algorithm, k, k1, k2);
-    chain::close(
-        &t,
-        cipher::SM4,
-        algorithm,
-        s.padding,
-        s.m,
-        rounds,
-        chain::Hold { chain, held },
-        s.total,
-    )
+    let agreement = s.agreement;
+    let k = chain::Keyed {
+        cipher: cipher::SM4,
+        settings: settings::Settings::of(agreement),
+        rounds: rounds_of(&t, s),
+    };
+    let hold = s.hold;
+    chain::close(&t, k, hold, s.total)
 }
 
 impl Session {
     // More bits of the message: the first bits of the bytes.
     pub fn piece(self, bytes: &[u8], bits: usize) -> Step
-        ensures { λ r. ⌜ stepBits r ≡ pieceOf (sessionBits self) (now (bytes .entry)) bits ⌝ }
+        ensures { λ r. ⌜ r ≡ pieceOf self (now (bytes .entry)) bits ⌝ }
     {
         let no = piece_refusal(self, bytes.len(), bits);
         if no != 0 {
             return Step {
-                answer: settings::Answer::Refused(no),
+                answer: settings::Outcome::Refused(no),
                 session: self,
             };
         }
         let next = fed(self, bytes, bits);
         Step {
-            answer: settings::Answer::Accepted,
+            answer: settings::Outcome::Accepted,
             session: next,
         }
     }
 
     // The end of the message: its tag goes into the first bytes of the room, and the session is closed.
     pub fn finish(self, room: &mut [u8]) -> Step
-        ensures { λ r. ⌜ (stepBits r, now (room .exit)) ≡ finishOf (sessionBits self) (now (room .entry)) ⌝ }
+        ensures { λ r. ⌜ (r, now (room .exit)) ≡ finishOf self (now (room .entry)) ⌝ }
     {
         let no = finish_refusal(self, room.len());
         if no != 0 {
             return Step {
-                answer: settings::Answer::Refused(no),
+                answer: settings::Outcome::Refused(no),
                 session: self,
             };
         }
-        let made = tag_block(self);
-        block::put(made, tag::bytes_for(self.m), room);
+        let agreement = self.agreement;
+        let tag = tag_block(self);
+        block::put(tag, message::bytes_for(agreement.m), room);
         let shut = closed_session();
-        let calls = chain::calls(cipher::SM4, self.algorithm, self.padding, self.total);
+        let s = settings::Settings::of(agreement);
+        let calls = chain::calls(cipher::SM4, s, self.total);
         Step {
-            answer: settings::Answer::Made(calls),
+            answer: settings::Outcome::Made(calls),
             session: shut,
         }
     }

@@ -1,4 +1,3 @@
-pub mod Rows
 pub mod Sound
 pub mod Numbers
 pub mod Unique

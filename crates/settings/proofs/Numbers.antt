@@ -8,9 +8,9 @@ use lib.Dec.{eqb}
 use borrow.Author.Tests.{eqb-true}
 use Rattle.bits.specs.Choice.{pick}
 use Rattle.settings.specs.Answers.{numberOf, reportedCalls}
-use Rattle.settings.specs.declared.Answer.{Answer}
+use Rattle.settings.specs.declared.Outcome.{Outcome}
 
-module _ {R : Type 0} (answer : R → Answer) (n : ℕ) (x y : R) where
+module _ {R : Type 0} (answer : R → Outcome) (n : ℕ) (x y : R) where
   pub number-chosen : numberOf (answer x) ≡ 0 → numberOf (answer y) ≡ n → numberOf (answer (pick (eqb n 0) x y)) ≡ n
   unfolding pick
   number-chosen good bad = go (eqb n 0) refl

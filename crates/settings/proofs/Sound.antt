@@ -1,46 +1,78 @@
 -- Settings that are not refused: their list of faults has no number 0 (`settings-numbered`), so no fault is there, and the tag
--- length lies between 1 and 128 (`sound-size`).
+-- length lies between 1 and 128 (`sound-size`); and what the builder's two answers say (`unsound-is`, `sound-is`).
 -- Assumes nothing.
-use mathlib.Core.Path.{_≡_, refl, sym}
+use mathlib.Core.Path.{_≡_, refl, sym, subst}
 use mathlib.Core.Bool.{Bool, true, false, _||_, false≢true}
 use mathlib.Core.List.{List, [], _++_}
 use Prim.Native.Nat.{ℕ, _≤_, _<_}
 use native.Mathlib.Omega.{arith}
 use lib.Dec.{eqb, ltb}
-use borrow.Author.Tests.{ltb-false}
+use borrow.Author.Tests.{ltb-false, eqb-true, eqb-false}
 use Rattle.bits.specs.Choice.{pick, Fault}
 use Rattle.bits.proofs.Faults.{Clear, passed, done, Numbered, also, none, first-clear}
-use Rattle.mac.specs.Algorithm.{Keys}
-use Rattle.settings.specs.Faults.{settingsFaults, settingsRefusal, sizeWrong, longestTag}
+use Rattle.mac.specs.declared.Row.{Row}
+use Rattle.mac.specs.Algorithm.{algorithmAt, row, Keys}
+use Rattle.mac.proofs.Numbers.{by-number}
+use Rattle.settings.specs.declared.Agreement.{Agreement}
+use Rattle.settings.specs.declared.Settings.{Settings}
+use Rattle.settings.specs.declared.Checked.{Checked}
+use Rattle.settings.specs.declared.Checked.the-variants.{Sound, Unsound}
+use Rattle.settings.specs.Faults.{settingsFaults, settingsRefusal, sizeWrong}
+use Rattle.settings.specs.Answers.{settingsOf, checkedOf}
 
 -- also where other faults come after them
-pub settings-numbered : (a p m n : ℕ) (K : Keys) (fs : List Fault) → Numbered fs → Numbered (settingsFaults a p m n K ++ fs)
+pub settings-numbered : (A : Agreement) (n : ℕ) (K : Keys) (fs : List Fault) → Numbered fs → Numbered (settingsFaults A n K ++ fs)
 unfolding settingsFaults
-settings-numbered a p m n K fs h =
+settings-numbered A n K fs h =
     also {k = 1} (omega arith) (also {k = 2} (omega arith) (also {k = 3} (omega arith) (also {k = 4} (omega arith) (also {k = 5} (omega arith) (also {k = 6} (omega arith) h)))))
 
-pub settings-alone : (a p m n : ℕ) (K : Keys) → Numbered (settingsFaults a p m n K)
+pub settings-alone : (A : Agreement) (n : ℕ) (K : Keys) → Numbered (settingsFaults A n K)
 unfolding settingsFaults
-settings-alone a p m n K = settings-numbered a p m n K [] none
+settings-alone A n K = settings-numbered A n K [] none
 
-longest-128 : (a : ℕ) → longestTag a ≤ 128
-unfolding longestTag pick
-longest-128 a = go (eqb a 7)
-  where
-    go : (b : Bool) → pick b 63 128 ≤ 128
-    go true = omega arith
-    go false = omega arith
+longest-128 : (a : ℕ) → row (algorithmAt a) .longest ≤ 128
+longest-128 =
+    by-number (λ a A. row A .longest ≤ 128) (λ a. omega arith) (omega arith) (omega arith) (omega arith) (omega arith) (omega arith) (omega arith) (omega arith)
 
 neither : (a b : Bool) → a || b ≡ false → (a ≡ false) × (b ≡ false)
 neither true b e = absurd (false≢true (sym e))
 neither false b e = (refl, e)
 
-sound-clear : (a p m n : ℕ) (K : Keys) → Clear (settingsFaults a p m n K) → (0 < m) × (m ≤ 128)
-unfolding settingsFaults sizeWrong
-sound-clear a p m n K (passed e1 (passed e2 (passed e3 (passed e4 (passed e5 (passed e6 done)))))) =
-    let both = neither (ltb m 1) (ltb (longestTag a) m) e3 in
-    (omega (arith, ltb-false m 1 (both .0)), omega (arith, longest-128 a, ltb-false (longestTag a) m (both .1)))
+module _ (A : Agreement) (n : ℕ) (K : Keys) where
+  sound-clear : Clear (settingsFaults A n K) → (0 < A .m) × (A .m ≤ 128)
+  unfolding settingsFaults sizeWrong
+  sound-clear (passed e1 (passed e2 (passed e3 (passed e4 (passed e5 (passed e6 done)))))) =
+      let longest = row (algorithmAt (A .algorithm)) .longest in
+      let both = neither (ltb (A .m) 1) (ltb longest (A .m)) e3 in
+      (omega (arith, ltb-false (A .m) 1 (both .0)), omega (arith, longest-128 (A .algorithm), ltb-false longest (A .m) (both .1)))
 
-pub sound-size : (a p m n : ℕ) (K : Keys) → settingsRefusal a p m n K ≡ 0 → (0 < m) × (m ≤ 128)
-unfolding settingsRefusal
-sound-size a p m n K e = sound-clear a p m n K (first-clear _ (settings-alone a p m n K) e)
+  pub sound-size : settingsRefusal A n K ≡ 0 → (0 < A .m) × (A .m ≤ 128)
+  unfolding settingsRefusal
+  sound-size e = sound-clear (first-clear _ (settings-alone A n K) e)
+
+  -- ---- what the builder's answers say
+
+  abbrev no : ℕ
+  no = settingsRefusal A n K
+
+  abbrev chosen : Bool → Checked
+  chosen b = pick b (Sound (settingsOf A)) (Unsound no)
+
+  pub unsound-is : (k : ℕ) → checkedOf A n K ≡ Unsound k → (no ≡ k) × (no ≡ 0 → ⊥)
+  unfolding checkedOf pick
+  unsound-is k e = go (eqb no 0) refl e
+    where
+      go : (b : Bool) → eqb no 0 ≡ b → chosen b ≡ Unsound k → (no ≡ k) × (no ≡ 0 → ⊥)
+      go true h f = absurd (let z : _≡_ {A = ℕ} 0 1 = cc in omega arith)
+      go false h f = (cc, eqb-false no 0 h)
+
+  pub sound-is : (S : Settings) → checkedOf A n K ≡ Sound S → (no ≡ 0) × (S ≡ settingsOf A)
+  unfolding checkedOf pick
+  sound-is S e = go (eqb no 0) refl e
+    where
+      go : (b : Bool) → eqb no 0 ≡ b → chosen b ≡ Sound S → (no ≡ 0) × (S ≡ settingsOf A)
+      go true h f = (eqb-true no 0 h, cc)
+      go false h f = absurd (let z : _≡_ {A = ℕ} 0 1 = cc in omega arith)
+
+  pub sound-fits : (S : Settings) → checkedOf A n K ≡ Sound S → (0 < S .m) × (S .m ≤ 128)
+  sound-fits S e = let both = sound-is S e in subst (λ (t : Settings). (0 < t .m) × (t .m ≤ 128)) (sym (both .1)) (sound-size (both .0))

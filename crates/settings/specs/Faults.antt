@@ -1,12 +1,14 @@
--- Refusals 1 to 6 of document 01: a test for each fault, in the words of its column, and the order.
+-- Refusals 1 to 6 of document 01: a test for each fault, in the words of its column (4 to 6 stand in crate keys), and the order.
 -- Assumes nothing.
-use mathlib.Core.Bool.{Bool, _&&_, _||_, not}
+use mathlib.Core.Bool.{Bool, _||_, not}
 use mathlib.Core.List.{List, [], _∷_}
 use Prim.Native.Nat.{ℕ}
 use lib.Dec.{eqb, ltb}
 use Rattle.bits.specs.Choice.{pick, Fault, _given_, firstOf}
-use Rattle.bits.specs.Str.{sameB}
-use Rattle.mac.specs.Algorithm.{algorithmAt, Row, row, Keys}
+use Rattle.mac.specs.declared.Row.{Row}
+use Rattle.mac.specs.Algorithm.{algorithmAt, row, Keys}
+use Rattle.keys.specs.Faults.{keyBytesWrong, keysSame, keysWeak}
+use Rattle.settings.specs.declared.Agreement.{Agreement}
 
 -- 1: algorithm not 1..8
 unfoldable pub algorithmWrong : ℕ → Bool
@@ -17,35 +19,20 @@ unfoldable pub paddingWrong : ℕ → ℕ → Bool
 paddingWrong a p = pick (row (algorithmAt a) .four) (not (eqb p 4)) (ltb p 1 || ltb 3 p)
 
 -- 3: m outside its limit
-unfoldable pub longestTag : ℕ → ℕ
-longestTag a = pick (eqb a 7) 63 128
-
 unfoldable pub sizeWrong : ℕ → ℕ → Bool
-sizeWrong a m = ltb m 1 || ltb (longestTag a) m
-
--- 4: key bytes not 16 (one key) or 32 (K, then K′)
-unfoldable pub keyBytesWrong : ℕ → ℕ → Bool
-keyBytesWrong a n = not (eqb n (pick (row (algorithmAt a) .two) 32 16))
-
--- 5: algorithm 2, 4 or 6 with K = K′, or 4 with K = K″
-unfoldable pub keysSame : ℕ → Keys → Bool
-keysSame a K = ((eqb a 2 || eqb a 4 || eqb a 6) && sameB (K .k) (K .k′)) || (eqb a 4 && sameB (K .k) (K .k″))
-
--- 6: algorithm 4 with K′ = K″
-unfoldable pub keysWeak : ℕ → Keys → Bool
-keysWeak a K = eqb a 4 && sameB (K .k′) (K .k″)
+sizeWrong a m = ltb m 1 || ltb (row (algorithmAt a) .longest) m
 
 -- in this order; n is the number of key bytes
-unfoldable pub settingsFaults : ℕ → ℕ → ℕ → ℕ → Keys → List Fault
-settingsFaults a p m n K =
-    1 given algorithmWrong a ∷
-    2 given paddingWrong a p ∷
-    3 given sizeWrong a m ∷
-    4 given keyBytesWrong a n ∷
-    5 given keysSame a K ∷
-    6 given keysWeak a K ∷
+unfoldable pub settingsFaults : Agreement → ℕ → Keys → List Fault
+settingsFaults A n K =
+    1 given algorithmWrong (A .algorithm) ∷
+    2 given paddingWrong (A .algorithm) (A .padding) ∷
+    3 given sizeWrong (A .algorithm) (A .m) ∷
+    4 given keyBytesWrong (A .algorithm) n ∷
+    5 given keysSame (A .algorithm) K ∷
+    6 given keysWeak (A .algorithm) K ∷
     []
 
 -- the refusal, 0 where there is none
-unfoldable pub settingsRefusal : ℕ → ℕ → ℕ → ℕ → Keys → ℕ
-settingsRefusal a p m n K = firstOf (settingsFaults a p m n K)
+unfoldable pub settingsRefusal : Agreement → ℕ → Keys → ℕ
+settingsRefusal A n K = firstOf (settingsFaults A n K)

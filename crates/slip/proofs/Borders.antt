@@ -10,13 +10,14 @@ use lib.ListN.{length, take, drop, length-append}
 use Rattle.bits.specs.Choice.{pick, _given_, firstOf}
 use Rattle.bits.proofs.Faults.{first-append, first-append-clear}
 use Rattle.mac.proofs.Borders.{Borders, borders}
-use Rattle.fields.specs.Field.{outside, anyOutside, pairAt, value, endOf, headFaults}
+use Rattle.fields.specs.Format.{expiryRow, lotRow, amountRow}
+use Rattle.fields.specs.Field.{outside, anyOutside, twoBytes, value, endOf, fieldFaults, fieldOf}
 use Rattle.fields.specs.Date.{digitAt, twoDigits, yearOf, monthOf, dayOf, days, leap, daysIn, dateWrong}
 use Rattle.fields.specs.Layout.{lotAt, sealAt, lotField, amountField, sealField, covered, amountOf, expiryFaults, lotFaults, amountFaults, layoutFaults}
-use Rattle.fields.proofs.Heads.{head-numbered}
+use Rattle.fields.proofs.Formed.{field-numbered}
 use Rattle.fields.proofs.Inside.{seal-there, seal-long}
-use Rattle.fields.proofs.Whole.{fieldOf, after-lot, after-amount}
-use Rattle.fields.proofs.Written.{written-value, written-after, written-head}
+use Rattle.fields.proofs.Whole.{after-lot, after-amount}
+use Rattle.fields.proofs.Written.{written-value, written-after, written-clear}
 use Rattle.slip.specs.Slip.{slipFaults, faultsUnder}
 
 -- the date 2024-02-29, and 2023-02-29, in eight digits
@@ -47,33 +48,32 @@ pub record ReadAs (s : List ℕ) (year month day : ℕ) (lot : List ℕ) (amount
 
 pub record AllBorders : Type 0 where
   pub P1-to-P9-and-P11 : Borders
-  pub P10-real : (rest : List ℕ) → firstOf (expiryFaults (fieldOf 0x01 leapDay ++ rest)) ≡ 0
-  pub P10-unreal : (rest keys : List ℕ) → firstOf (slipFaults (fieldOf 0x01 noLeapDay ++ rest) keys) ≡ 23
+  pub P10-real : (rest : List ℕ) → firstOf (expiryFaults (fieldOf expiryRow leapDay ++ rest)) ≡ 0
+  pub P10-unreal : (rest keys : List ℕ) → firstOf (slipFaults (fieldOf expiryRow noLeapDay ++ rest) keys) ≡ 23
   pub P12 : (seal : List ℕ) → ReadAs (coveredP12 ++ seal) 2026 11 4 (0x41 ∷ 0x37 ∷ []) 500 seal
   pub P12-covered : (seal : List ℕ) → covered (coveredP12 ++ seal) ≡ coveredP12
 
 -- ---- the proofs: the fields are read back from the bytes that they were put together from
 
 date-first : (digits rest : List ℕ) → length digits ≡ 8 → anyOutside 0x30 0x39 digits ≡ false
-    → firstOf (expiryFaults (fieldOf 0x01 digits ++ rest)) ≡ firstOf (23 given dateWrong (yearOf (fieldOf 0x01 digits ++ rest)) (monthOf (fieldOf 0x01 digits ++ rest)) (dayOf (fieldOf 0x01 digits ++ rest)) ∷ [])
-unfolding expiryFaults firstOf pick
+    → firstOf (expiryFaults (fieldOf expiryRow digits ++ rest)) ≡ firstOf (23 given dateWrong (yearOf (fieldOf expiryRow digits ++ rest)) (monthOf (fieldOf expiryRow digits ++ rest)) (dayOf (fieldOf expiryRow digits ++ rest)) ∷ [])
+unfolding expiryFaults
 date-first digits rest long good =
-    let s = fieldOf 0x01 digits ++ rest in
-    first-append-clear (headFaults 0x01 8 8 s) _ (head-numbered 0x01 8 8 s) (written-head 0x01 digits rest 8 8 (omega arith) (omega arith))
-    ∙ rw (written-value 0x01 digits rest, good) refl
+    let s = fieldOf expiryRow digits ++ rest in
+    first-append-clear (fieldFaults expiryRow s) _ (field-numbered expiryRow s) (written-clear expiryRow digits rest (omega arith) (omega arith) good)
 
-leap-day : (rest : List ℕ) → firstOf (expiryFaults (fieldOf 0x01 leapDay ++ rest)) ≡ 0
+leap-day : (rest : List ℕ) → firstOf (expiryFaults (fieldOf expiryRow leapDay ++ rest)) ≡ 0
 unfolding anyOutside outside yearOf monthOf dayOf twoDigits digitAt dateWrong daysIn days leap pick firstOf
 leap-day rest = date-first leapDay rest refl refl
 
-no-leap-day : (rest : List ℕ) → firstOf (expiryFaults (fieldOf 0x01 noLeapDay ++ rest)) ≡ 23
+no-leap-day : (rest : List ℕ) → firstOf (expiryFaults (fieldOf expiryRow noLeapDay ++ rest)) ≡ 23
 unfolding anyOutside outside yearOf monthOf dayOf twoDigits digitAt dateWrong daysIn days leap pick firstOf
 no-leap-day rest = date-first noLeapDay rest refl refl
 
-no-leap-slip : (rest keys : List ℕ) → firstOf (slipFaults (fieldOf 0x01 noLeapDay ++ rest) keys) ≡ 23
+no-leap-slip : (rest keys : List ℕ) → firstOf (slipFaults (fieldOf expiryRow noLeapDay ++ rest) keys) ≡ 23
 unfolding slipFaults faultsUnder layoutFaults
 no-leap-slip rest keys =
-    let s = fieldOf 0x01 noLeapDay ++ rest in
+    let s = fieldOf expiryRow noLeapDay ++ rest in
     let some : firstOf (expiryFaults s) ≡ 0 → ⊥ = λ z. absurd (omega (arith, no-leap-day rest)) in
     let in-layout : firstOf (layoutFaults s) ≡ 23 = first-append (expiryFaults s) _ some ∙ no-leap-day rest in
     first-append (layoutFaults s) _ (λ z. absurd (omega (arith, in-layout))) ∙ in-layout
@@ -91,41 +91,37 @@ module _ (seal : List ℕ) where
   abbrev s : List ℕ
   s = coveredP12 ++ seal
 
-  lot-field : lotField s ≡ fieldOf 0x02 v2 ++ (fieldOf 0x03 v3 ++ seal)
+  lot-field : lotField s ≡ fieldOf lotRow v2 ++ (fieldOf amountRow v3 ++ seal)
   unfolding lotField lotAt
-  lot-field = written-after 0x01 v1 (fieldOf 0x02 v2 ++ (fieldOf 0x03 v3 ++ seal))
+  lot-field = written-after expiryRow v1 (fieldOf lotRow v2 ++ (fieldOf amountRow v3 ++ seal))
 
-  amount-field : amountField s ≡ fieldOf 0x03 v3 ++ seal
-  amount-field = sym (after-lot s) ∙ ap (λ (f : List ℕ). drop (endOf f) f) lot-field ∙ written-after 0x02 v2 (fieldOf 0x03 v3 ++ seal)
+  amount-field : amountField s ≡ fieldOf amountRow v3 ++ seal
+  amount-field = sym (after-lot s) ∙ ap (λ (f : List ℕ). drop (endOf f) f) lot-field ∙ written-after lotRow v2 (fieldOf amountRow v3 ++ seal)
 
   seal-field : sealField s ≡ seal
-  seal-field = sym (after-amount s) ∙ ap (λ (f : List ℕ). drop (endOf f) f) amount-field ∙ written-after 0x03 v3 seal
+  seal-field = sym (after-amount s) ∙ ap (λ (f : List ℕ). drop (endOf f) f) amount-field ∙ written-after amountRow v3 seal
 
   first-lot : firstOf (lotFaults (lotField s)) ≡ 0
-  unfolding lotFaults anyOutside outside firstOf pick
-  first-lot =
-      rw lot-field
-      (let f = fieldOf 0x02 v2 ++ (fieldOf 0x03 v3 ++ seal) in
-      first-append-clear (headFaults 0x02 1 32 f) _ (head-numbered 0x02 1 32 f) (written-head 0x02 v2 (fieldOf 0x03 v3 ++ seal) 1 32 (omega arith) (omega arith))
-      ∙ rw (written-value 0x02 v2 (fieldOf 0x03 v3 ++ seal)) refl)
+  unfolding lotFaults anyOutside outside
+  first-lot = rw lot-field (written-clear lotRow v2 (fieldOf amountRow v3 ++ seal) (omega arith) (omega arith) refl)
 
   first-amount : firstOf (amountFaults (amountField s)) ≡ 0
-  unfolding amountFaults amountOf pairAt outside firstOf pick
+  unfolding amountFaults amountOf twoBytes anyOutside outside firstOf pick
   first-amount =
       rw amount-field
-      (let f = fieldOf 0x03 v3 ++ seal in
-      first-append-clear (headFaults 0x03 4 4 f) _ (head-numbered 0x03 4 4 f) (written-head 0x03 v3 seal 4 4 (omega arith) (omega arith)))
+      (let f = fieldOf amountRow v3 ++ seal in
+      first-append-clear (fieldFaults amountRow f) _ (field-numbered amountRow f) (written-clear amountRow v3 seal (omega arith) (omega arith) refl))
 
   read-p12 : ReadAs s 2026 11 4 v2 500 seal
-  unfolding yearOf monthOf dayOf twoDigits digitAt amountOf pairAt anyOutside outside dateWrong daysIn days leap pick firstOf
+  unfolding yearOf monthOf dayOf twoDigits digitAt amountOf twoBytes anyOutside outside dateWrong daysIn days leap pick firstOf
   read-p12 = record {
     year-is = refl;
     month-is = refl;
     day-is = refl;
-    lot-is = rw lot-field (written-value 0x02 v2 (fieldOf 0x03 v3 ++ seal));
+    lot-is = rw lot-field (written-value lotRow v2 (fieldOf amountRow v3 ++ seal));
     amount-is = rw amount-field refl;
     seal-is = seal-field;
-    expiry-good = date-first v1 (fieldOf 0x02 v2 ++ (fieldOf 0x03 v3 ++ seal)) refl refl;
+    expiry-good = date-first v1 (fieldOf lotRow v2 ++ (fieldOf amountRow v3 ++ seal)) refl refl;
     lot-good = first-lot;
     amount-good = first-amount;
   }

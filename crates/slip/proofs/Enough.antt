@@ -13,21 +13,23 @@ use lib.Dec.{eqb, leb}
 use borrow.Author.Tests.{leb-true, leb-false, ne-eqb}
 use Rattle.bits.specs.Choice.{pick, Fault, _given_, firstOf}
 use Rattle.bits.proofs.Faults.{Clear, passed, first-clear, first-same}
+use Rattle.mac.specs.declared.Row.{Row}
 use Rattle.mac.specs.Algorithm.{algorithmAt, row, Keys}
-use Rattle.settings.specs.Keys.{keysOf}
-use Rattle.settings.specs.Faults.{algorithmWrong, paddingWrong, sizeWrong, keyBytesWrong, settingsFaults}
-use Rattle.settings.proofs.Sound.{settings-alone}
+use Rattle.keys.specs.Given.{keysOf}
+use Rattle.keys.specs.Faults.{keyBytes, keyBytesWrong}
+use Rattle.settings.specs.Faults.{algorithmWrong, paddingWrong, sizeWrong, settingsFaults}
 use Rattle.fields.specs.Layout.{layoutFaults}
 use Rattle.fields.proofs.Laid.{laid-out}
 use Rattle.fields.proofs.FirstBytes.{layout-alike, longest}
-use Rattle.slip.specs.Slip.{algorithmNamed, paddingNamed, mNamed, faultsUnder, slipFaults, refusedSlip, readOf}
-use Rattle.slip.proofs.Judged.{believed, layout-refused}
+use Rattle.slip.specs.Slip.{agreementNamed, faultsUnder, slipFaults, refusedSlip, readOf}
+use Rattle.settings.specs.declared.Agreement.{Agreement}
+use Rattle.slip.proofs.Judged.{agreement-numbered, believed, layout-refused}
 use Rattle.slip.proofs.Numbers.{refused-is}
 
 -- ---- keys of more than 32 bytes
 
 too-long : (a n : ℕ) → 32 < n → keyBytesWrong a n ≡ true
-unfolding keyBytesWrong pick
+unfolding keyBytesWrong keyBytes pick
 too-long a n h = go (row (algorithmAt a) .two)
   where
     go : (two : Bool) → not (eqb n (pick two 32 16)) ≡ true
@@ -35,30 +37,30 @@ too-long a n h = go (row (algorithmAt a) .two)
     go false = ap not (ne-eqb n 16 (λ e. absurd (omega arith)))
 
 -- 4 at the latest, and up to it the keys are not looked at
-four-latest : (a p m n : ℕ) (K : Keys) (fs : List Fault) → 32 < n
-    → firstOf (settingsFaults a p m n K ++ fs) ≡ firstOf (1 given algorithmWrong a ∷ 2 given paddingWrong a p ∷ 3 given sizeWrong a m ∷ 4 given true ∷ [])
+four-latest : (A : Agreement) (n : ℕ) (K : Keys) (fs : List Fault) → 32 < n
+    → firstOf (settingsFaults A n K ++ fs) ≡ firstOf (1 given algorithmWrong (A .algorithm) ∷ 2 given paddingWrong (A .algorithm) (A .padding) ∷ 3 given sizeWrong (A .algorithm) (A .m) ∷ 4 given true ∷ [])
 unfolding settingsFaults firstOf pick
-four-latest a p m n K fs h = rw (too-long a n h) refl
+four-latest A n K fs h = rw (too-long (A .algorithm) n h) refl
 
-not-clear : (a p m n : ℕ) (K : Keys) → 32 < n → ¬ Clear (settingsFaults a p m n K)
+not-clear : (A : Agreement) (n : ℕ) (K : Keys) → 32 < n → ¬ Clear (settingsFaults A n K)
 unfolding settingsFaults
-not-clear a p m n K h (passed e1 (passed e2 (passed e3 (passed e4 c)))) = true≢false (sym (too-long a n h) ∙ e4)
+not-clear A n K h (passed e1 (passed e2 (passed e3 (passed e4 c)))) = true≢false (sym (too-long (A .algorithm) n h) ∙ e4)
 
-module _ (a p m : ℕ) (s : List ℕ) where
-  some-fault : (k : List ℕ) → 32 < length k → ¬ (firstOf (faultsUnder a p m s k) ≡ 0)
-  some-fault k h e = not-clear a p m (length k) (keysOf k) h (first-clear _ (settings-alone a p m (length k) (keysOf k)) (believed a p m s k e .settings))
+module _ (A : Agreement) (s : List ℕ) where
+  some-fault : (k : List ℕ) → 32 < length k → ¬ (firstOf (faultsUnder A s k) ≡ 0)
+  some-fault k h e = not-clear A (length k) (keysOf k) h (first-clear _ (agreement-numbered A k) (believed A s k e .settings))
 
-  same-fault : (k l : List ℕ) → 32 < length k → 32 < length l → firstOf (faultsUnder a p m s k) ≡ firstOf (faultsUnder a p m s l)
+  same-fault : (k l : List ℕ) → 32 < length k → 32 < length l → firstOf (faultsUnder A s k) ≡ firstOf (faultsUnder A s l)
   unfolding faultsUnder
-  same-fault k l hk hl = first-same (layoutFaults s) _ _ (four-latest a p m (length k) (keysOf k) _ hk ∙ sym (four-latest a p m (length l) (keysOf l) _ hl))
+  same-fault k l hk hl = first-same (layoutFaults s) _ _ (four-latest A (length k) (keysOf k) _ hk ∙ sym (four-latest A (length l) (keysOf l) _ hl))
 
 -- any two such keys get the same answer
 long-keys : (s k l : List ℕ) → 32 < length k → 32 < length l → readOf s k ≡ readOf s l
 unfolding slipFaults
 long-keys s k l hk hl =
-    refused-is s k (some-fault _ _ _ s k hk)
-    ∙ ap refusedSlip (same-fault (algorithmNamed s) (paddingNamed s) (mNamed s) s k l hk hl)
-    ∙ sym (refused-is s l (some-fault _ _ _ s l hl))
+    refused-is s k (some-fault _ s k hk)
+    ∙ ap refusedSlip (same-fault (agreementNamed s) s k l hk hl)
+    ∙ sym (refused-is s l (some-fault _ s l hl))
 
 pub keys-33 : (s k : List ℕ) → readOf s (take 33 k) ≡ readOf s k
 keys-33 s k = go (leb (length k) 33) refl
@@ -77,8 +79,8 @@ unfolding readOf
 long-slips s t k hs ht e =
     let n = firstOf (layoutFaults s) in
     let some : n ≡ 0 → ⊥ = λ z. absurd (omega (arith, longest s (laid-out s z))) in
-    sym (layout-refused (algorithmNamed s) (paddingNamed s) (mNamed s) s k n refl some)
-    ∙ layout-refused (algorithmNamed t) (paddingNamed t) (mNamed t) t k n (layout-alike s t (record { left = hs; right = ht; same = e })) some
+    sym (layout-refused (agreementNamed s) s k n refl some)
+    ∙ layout-refused (agreementNamed t) t k n (layout-alike s t (record { left = hs; right = ht; same = e })) some
 
 pub first-76 : (s k : List ℕ) → readOf (take 76 s) k ≡ readOf s k
 first-76 s k = go (leb (length s) 76) refl

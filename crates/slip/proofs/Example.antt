@@ -14,13 +14,15 @@ use Rattle.cipher.specs.Ciphers.{cipherAt}
 use Rattle.mac.specs.Padding.{methodAt, complete, gap, oneGap, prefix, suffix, pad, D}
 use Rattle.mac.specs.Algorithm.{algorithmAt, step, steps}
 use Rattle.mac.specs.Tag.{some, H, G, mac, tagOf, callsOf, bitsOf, bytesFor, byteGroups, tagBytes}
-use Rattle.settings.specs.Keys.{keysOf}
-use Rattle.settings.specs.Faults.{settingsFaults, algorithmWrong, paddingWrong, sizeWrong, longestTag, keyBytesWrong, keysSame, keysWeak}
-use Rattle.tag.specs.OneCall.{tagLengthWrong, tagAt, callsAt}
-use Rattle.fields.specs.Field.{outside, anyOutside, pairAt, lengthOf, value, endOf, headFaults}
+use Rattle.keys.specs.Given.{keysOf}
+use Rattle.keys.specs.Faults.{keyBytes, keyBytesWrong, keysSame, keysWeak}
+use Rattle.settings.specs.Faults.{settingsFaults, algorithmWrong, paddingWrong, sizeWrong}
+use Rattle.message.specs.Faults.{tagLengthWrong}
+use Rattle.tag.specs.OneCall.{tagAt, callsAt}
+use Rattle.fields.specs.Field.{outside, anyOutside, twoBytes, lengthOf, value, endOf, fieldFaults}
 use Rattle.fields.specs.Date.{digitAt, twoDigits, yearOf, monthOf, dayOf, days, leap, daysIn, dateWrong}
 use Rattle.fields.specs.Layout.{lotAt, amountAt, sealAt, lotField, amountField, sealField, covered, amountOf, expiryFaults, lotFaults, amountFaults, sealFaults, layoutFaults}
-use Rattle.slip.specs.Slip.{algorithmNamed, paddingNamed, mNamed, tagNamed, sealDefined, sealCalls, sealWrong, faultsUnder, acceptedSlip, readUnder, readOf}
+use Rattle.slip.specs.Slip.{agreementNamed, tagNamed, sealDefined, sealCalls, sealWrong, faultsUnder, contentsOf, acceptedSlip, readUnder, readOf}
 use Rattle.slip.proofs.Borders.{coveredP12}
 
 abbrev pub key : List ℕ
@@ -29,6 +31,6 @@ key = 0x01 ∷ 0x23 ∷ 0x45 ∷ 0x67 ∷ 0x89 ∷ 0xab ∷ 0xcd ∷ 0xef ∷ 0x
 abbrev pub sealed : List ℕ
 sealed = coveredP12 ++ (0x7f ∷ 0x00 ∷ 0x0b ∷ 5 ∷ 4 ∷ 64 ∷ 0xa4 ∷ 0x7a ∷ 0x92 ∷ 0x99 ∷ 0xc7 ∷ 0xb8 ∷ 0x45 ∷ 0x6c ∷ [])
 
-pub accepted-example : readOf sealed key ≡ record { number = 0; year = 2026; month = 11; day = 4; amount = 500; calls = 3; place = 14; length = 2 }
-unfolding pick firstOf bitsN digit numOf bytesBits flatMap words zeros xorB zipWith xor sameB rotl leftmost filled shiftl double halvesFlipped everySecond front sbox FK ck CK CKs quad flat four Sbox τ L L′ T T′ F round rounds made R enc roundKeys encrypted cipherAt methodAt complete gap oneGap prefix suffix pad D algorithmAt step steps some H G mac tagOf callsOf bitsOf bytesFor byteGroups tagBytes keysOf settingsFaults algorithmWrong paddingWrong sizeWrong longestTag keyBytesWrong keysSame keysWeak tagLengthWrong tagAt callsAt outside anyOutside pairAt lengthOf value endOf headFaults digitAt twoDigits yearOf monthOf dayOf days leap daysIn dateWrong lotAt amountAt sealAt lotField amountField sealField covered amountOf expiryFaults lotFaults amountFaults sealFaults layoutFaults algorithmNamed paddingNamed mNamed tagNamed sealDefined sealCalls sealWrong faultsUnder acceptedSlip readUnder readOf
+pub accepted-example : readOf sealed key ≡ record { number = 0; calls = 3; contents = record { year = 2026; month = 11; day = 4; amount = 500; «lot_at» = 14; «lot_len» = 2 } }
+unfolding pick firstOf bitsN digit numOf bytesBits flatMap words zeros xorB zipWith xor sameB rotl leftmost filled shiftl double halvesFlipped everySecond front sbox FK ck CK CKs quad flat four Sbox τ L L′ T T′ F round rounds made R enc roundKeys encrypted cipherAt methodAt complete gap oneGap prefix suffix pad D algorithmAt step steps some H G mac tagOf callsOf bitsOf bytesFor byteGroups tagBytes keysOf settingsFaults algorithmWrong paddingWrong sizeWrong keyBytes keyBytesWrong keysSame keysWeak tagLengthWrong tagAt callsAt outside anyOutside twoBytes lengthOf value endOf fieldFaults digitAt twoDigits yearOf monthOf dayOf days leap daysIn dateWrong lotAt amountAt sealAt lotField amountField sealField covered amountOf expiryFaults lotFaults amountFaults sealFaults layoutFaults agreementNamed tagNamed sealDefined sealCalls sealWrong faultsUnder contentsOf acceptedSlip readUnder readOf
 accepted-example = refl

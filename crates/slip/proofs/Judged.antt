@@ -1,41 +1,55 @@
 -- What `read_under` rests on. Where the fields are clear, the covered part has 22 to 53 bytes, so that of the refusals 7 to 10 of a
--- check only 10 can come; a check's answer is then turned into the slip's answer (`judged`). And the lot lies inside the slip.
+-- check only 10 can come; a check's answer is then turned into the slip's answer (`judged`). And the lot that is read lies inside the
+-- slip (`lot-there`).
 -- Assumes nothing.
 use mathlib.Core.Path.{_≡_, refl, sym, ap, _∙_}
-use mathlib.Core.Bool.{Bool, true, false, not, _&&_}
+use mathlib.Core.Bool.{Bool, true, false, not}
 use mathlib.Core.List.{List, [], _∷_, _++_, append-assoc}
 use Prim.Native.Nat.{ℕ, zero, suc, _+_, _*_, _/_, _≤_}
 use native.Mathlib.Omega.{arith}
 use lib.ListN.{length, take, drop, length-take, length-drop}
 use lib.Seq.{take-all, drop-drop}
 use lib.Dec.{eqb}
-use borrow.Author.Tests.{le-ltb, eq-eqb, ne-eqb}
+use denote.Ref.{RefT, now}
+use borrow.Author.Tests.{le-ltb, le-leb, eq-eqb, ne-eqb}
 use Rattle.bits.specs.Choice.{pick, Fault, _given_, firstOf}
 use Rattle.bits.specs.Str.{bytesBits, sameB}
+use Rattle.bits.proofs.Choice.{hit}
 use Rattle.bits.proofs.Faults.{Clear, passed, done, Numbered, also, none, first-clear, clear-first, clear-append, first-append, first-append-clear, first-same, numbered-append}
 use Rattle.cipher.specs.Cipher.{Cipher}
 use Rattle.cipher.proofs.Laws.{sm4-width}
 use Rattle.mac.specs.Padding.{Method, methodAt, blockCount}
 use Rattle.mac.specs.Tag.{bytesFor}
+use Rattle.mac.specs.declared.Row.{Row}
+use Rattle.mac.specs.Algorithm.{algorithmAt, row}
+use Rattle.mac.proofs.Numbers.{by-number}
 use Rattle.mac.proofs.Padded.{padded-length, blockCount-is}
-use Rattle.settings.specs.Keys.{keysOf}
-use Rattle.settings.specs.Faults.{settingsFaults}
+use Rattle.keys.specs.Given.{keysOf}
 use Rattle.settings.proofs.Sound.{settings-alone}
-use Rattle.settings.specs.declared.Answer.{Answer}
-use Rattle.settings.specs.declared.Answer.the-variants.{Accepted, Made, Yes, No, Refused}
-use Rattle.tag.specs.OneCall.{lengthWrong, tooManyBits, tooFewBlocks, tagLengthWrong, messageFaults, oneCallFaults, checkOf}
+use Rattle.settings.specs.Answers.{settingsOf}
+use Rattle.settings.specs.declared.Settings.{Settings}
+use Rattle.settings.specs.declared.Outcome.{Outcome}
+use Rattle.settings.specs.declared.Outcome.the-variants.{Accepted, Made, Yes, No, Refused}
+use Rattle.message.specs.Faults.{lengthWrong, tooManyBits, tooFewBlocks, tagLengthWrong, messageFaults}
+use Rattle.tag.specs.OneCall.{oneCallFaults, checkedBy, checkOf}
 use Rattle.fields.specs.Field.{lengthOf, value}
 use Rattle.fields.specs.Layout.{lotAt, sealAt, lotField, sealField, covered, layoutFaults}
-use Rattle.fields.proofs.Heads.{end-whole}
+use Rattle.fields.proofs.Formed.{end-whole}
 use Rattle.fields.proofs.Inside.{seal-there}
 use Rattle.fields.proofs.Laid.{LaidOut, laid-out, layout-numbered, covered-least, covered-most}
-use Rattle.slip.specs.Slip.{algorithmNamed, paddingNamed, mNamed, tagNamed, sealDefined, sealCalls, sealWrong, faultsUnder, acceptedSlip, refusedSlip, readUnder, readOf}
+use Rattle.slip.specs.Part.{lotPart, lotPartIn}
+use Rattle.slip.specs.Slip.{agreementNamed, tagNamed, sealDefined, sealCalls, sealWrong, agreementFaults, faultsUnder, contentsOf, acceptedSlip, refusedSlip, readUnder, readOf}
+use Rattle.settings.specs.declared.Agreement.{Agreement}
 use Rattle.slip.specs.declared.Slip.{Slip}
 
 -- ---- 7, 8 and 9 do not arise
 
+-- no algorithm asks for more than two blocks
+least-two : (a : ℕ) → row (algorithmAt a) .least ≤ 2
+least-two = by-number (λ a A. row A .least ≤ 2) (λ a. omega arith) (omega arith) (omega arith) (omega arith) (omega arith) (omega arith) (omega arith) (omega arith)
+
 -- a message of n whole bytes, 17 to 1,048,576 of them
-module _ (a p n : ℕ) (least : 17 ≤ n) (most : n ≤ 1048576) where
+module _ (S : Settings) (n : ℕ) (least : 17 ≤ n) (most : n ≤ 1048576) where
   length-right : lengthWrong n (8 * n) ≡ false
   unfolding lengthWrong bytesFor
   length-right =
@@ -49,19 +63,21 @@ module _ (a p n : ℕ) (least : 17 ≤ n) (most : n ≤ 1048576) where
   two-blocks : (M : Method) → 2 ≤ blockCount M 128 (8 * n)
   two-blocks M = omega (arith, padded-length M 128 (8 * n) (omega arith), blockCount-is M 128 (8 * n) (omega arith))
 
-  enough-blocks : tooFewBlocks a p (8 * n) ≡ false
+  enough-blocks : tooFewBlocks S (8 * n) ≡ false
   unfolding tooFewBlocks
-  enough-blocks = rw (sm4-width, le-ltb (blockCount (methodAt p) 128 (8 * n)) 2 (two-blocks (methodAt p))) (and-false (eqb a 4))
-    where
-      and-false : (b : Bool) → (b && false) ≡ false
-      and-false true = refl
-      and-false false = refl
+  enough-blocks =
+      let q = blockCount (methodAt (S .padding)) 128 (8 * n) in
+      let few = row (algorithmAt (S .algorithm)) .least in
+      rw sm4-width (le-ltb q few (omega (arith, two-blocks (methodAt (S .padding)), least-two (S .algorithm))))
 
-  pub only-ten : (ten : Bool) → firstOf (messageFaults a p n (8 * n) ten) ≡ firstOf (10 given ten ∷ [])
+  pub only-ten : (ten : Bool) → firstOf (messageFaults S n (8 * n) ten) ≡ firstOf (10 given ten ∷ [])
   unfolding messageFaults firstOf pick
   only-ten ten = rw (length-right, few-bits, enough-blocks) refl
 
 -- ---- a slip whose fields are clear
+
+pub agreement-numbered : (A : Agreement) (keys : List ℕ) → Numbered (agreementFaults A keys)
+agreement-numbered A keys = settings-alone A (length keys) (keysOf keys)
 
 -- the bits that the seal covers
 abbrev coveredBits : List ℕ → ℕ
@@ -92,106 +108,106 @@ module _ (s : List ℕ) (ok : LaidOut s) where
 
   -- ---- from the check's answer to the slip's
 
-  module _ (a p m : ℕ) (keys : List ℕ) where
+  module _ (A : Agreement) (keys : List ℕ) where
     -- the check's refusals without 7, 8 and 9
     abbrev sealTests : List Fault
-    sealTests = settingsFaults a p m (length keys) (keysOf keys) ++ (10 given tagLengthWrong m (length (tagNamed s)) ∷ [])
+    sealTests = agreementFaults A keys ++ (10 given tagLengthWrong (A .m) (length (tagNamed s)) ∷ [])
 
     tests-numbered : Numbered sealTests
-    tests-numbered = numbered-append (settings-alone a p m (length keys) (keysOf keys)) (also {k = 10} (omega arith) none)
+    tests-numbered = numbered-append (agreement-numbered A keys) (also {k = 10} (omega arith) none)
 
-    check-first : firstOf (oneCallFaults a p m keys (length (covered s)) (coveredBits s) (tagLengthWrong m (length (tagNamed s)))) ≡ firstOf sealTests
+    check-first : firstOf (oneCallFaults A keys (length (covered s)) (coveredBits s) (tagLengthWrong (A .m) (length (tagNamed s)))) ≡ firstOf sealTests
     unfolding oneCallFaults
     check-first =
-        first-same (settingsFaults a p m (length keys) (keysOf keys)) _ _
-        (only-ten a p (length (covered s)) (omega (arith, covered-least s ok)) (omega (arith, covered-most s ok)) (tagLengthWrong m (length (tagNamed s))))
+        first-same (agreementFaults A keys) _ _
+        (only-ten (settingsOf A) (length (covered s)) (omega (arith, covered-least s ok)) (omega (arith, covered-most s ok)) (tagLengthWrong (A .m) (length (tagNamed s))))
 
-    slip-first : (clear : firstOf (layoutFaults s) ≡ 0) → firstOf (faultsUnder a p m s keys) ≡ firstOf (sealTests ++ (30 given sealWrong a p m s keys ∷ []))
+    slip-first : (clear : firstOf (layoutFaults s) ≡ 0) → firstOf (faultsUnder A s keys) ≡ firstOf (sealTests ++ (30 given sealWrong A s keys ∷ []))
     unfolding faultsUnder
     slip-first clear =
         first-append-clear (layoutFaults s) _ (layout-numbered s) clear
-        ∙ ap firstOf (sym (append-assoc (settingsFaults a p m (length keys) (keysOf keys)) (10 given tagLengthWrong m (length (tagNamed s)) ∷ []) (30 given sealWrong a p m s keys ∷ [])))
+        ∙ ap firstOf (sym (append-assoc (agreementFaults A keys) (10 given tagLengthWrong (A .m) (length (tagNamed s)) ∷ []) (30 given sealWrong A s keys ∷ [])))
 
 -- what the slip's answer is for each answer of the check
-unfoldable pub verdict : List ℕ → Answer → Slip
+unfoldable pub verdict : List ℕ → Outcome → Slip
 verdict s Accepted = refusedSlip 30
 verdict s (Made calls) = refusedSlip 30
 verdict s (Yes calls) = acceptedSlip s calls
 verdict s (No calls) = refusedSlip 30
 verdict s (Refused number) = refusedSlip number
 
-module _ (s : List ℕ) (clear : firstOf (layoutFaults s) ≡ 0) (a p m : ℕ) (keys : List ℕ) where
+module _ (s : List ℕ) (clear : firstOf (layoutFaults s) ≡ 0) (A : Agreement) (keys : List ℕ) where
   ok : LaidOut s
   ok = laid-out s clear
 
-  no-first : firstOf (faultsUnder a p m s keys) ≡ firstOf (sealTests s ok a p m keys ++ (30 given sealWrong a p m s keys ∷ []))
-  no-first = slip-first s ok a p m keys clear
+  no-first : firstOf (faultsUnder A s keys) ≡ firstOf (sealTests s ok A keys ++ (30 given sealWrong A s keys ∷ []))
+  no-first = slip-first s ok A keys clear
 
   -- the check refused: the slip is refused with the same number
-  check-refused : (n : ℕ) → n ≡ firstOf (sealTests s ok a p m keys) → (n ≡ 0 → ⊥) → refusedSlip n ≡ readUnder a p m s keys
+  check-refused : (n : ℕ) → n ≡ firstOf (sealTests s ok A keys) → (n ≡ 0 → ⊥) → refusedSlip n ≡ readUnder A s keys
   unfolding readUnder pick
   check-refused n e some =
-      let whole : firstOf (faultsUnder a p m s keys) ≡ n = no-first ∙ first-append (sealTests s ok a p m keys) _ (λ z. some (e ∙ z)) ∙ sym e in
+      let whole : firstOf (faultsUnder A s keys) ≡ n = no-first ∙ first-append (sealTests s ok A keys) _ (λ z. some (e ∙ z)) ∙ sym e in
       rw (whole, ne-eqb n 0 some) refl
 
   -- the check was made: 30 where the seal is wrong, else the slip is accepted
-  check-made : (same : Bool) → firstOf (sealTests s ok a p m keys) ≡ 0 → sealWrong a p m s keys ≡ not same
-      → pick same (acceptedSlip s (sealCalls a p m s keys)) (refusedSlip 30) ≡ readUnder a p m s keys
+  check-made : (same : Bool) → firstOf (sealTests s ok A keys) ≡ 0 → sealWrong A s keys ≡ not same
+      → pick same (acceptedSlip s (sealCalls A s keys)) (refusedSlip 30) ≡ readUnder A s keys
   unfolding readUnder pick firstOf
   check-made same e w =
-      let whole : firstOf (faultsUnder a p m s keys) ≡ pick (not same) 30 0 = no-first ∙ first-append-clear (sealTests s ok a p m keys) _ (tests-numbered s ok a p m keys) e ∙ ap (λ (b : Bool). pick b 30 0) w in
+      let whole : firstOf (faultsUnder A s keys) ≡ pick (not same) 30 0 = no-first ∙ first-append-clear (sealTests s ok A keys) _ (tests-numbered s ok A keys) e ∙ ap (λ (b : Bool). pick b 30 0) w in
       go same whole
     where
-      go : (same : Bool) → firstOf (faultsUnder a p m s keys) ≡ pick (not same) 30 0
-          → pick same (acceptedSlip s (sealCalls a p m s keys)) (refusedSlip 30) ≡ pick (eqb (firstOf (faultsUnder a p m s keys)) 0) (acceptedSlip s (sealCalls a p m s keys)) (refusedSlip (firstOf (faultsUnder a p m s keys)))
+      go : (same : Bool) → firstOf (faultsUnder A s keys) ≡ pick (not same) 30 0
+          → pick same (acceptedSlip s (sealCalls A s keys)) (refusedSlip 30) ≡ pick (eqb (firstOf (faultsUnder A s keys)) 0) (acceptedSlip s (sealCalls A s keys)) (refusedSlip (firstOf (faultsUnder A s keys)))
       go true e = rw e refl
       go false e = rw e refl
 
   abbrev same : Bool
-  same = sameB (bytesBits (tagNamed s)) (bytesBits (sealDefined a p m s keys))
+  same = sameB (bytesBits (tagNamed s)) (bytesBits (sealDefined A s keys))
 
-  by-number : (n : ℕ) → firstOf (oneCallFaults a p m keys (length (covered s)) (coveredBits s) (tagLengthWrong m (length (tagNamed s)))) ≡ n
-      → verdict s (pick (eqb n 0) (pick same (Yes (sealCalls a p m s keys)) (No (sealCalls a p m s keys))) (Refused n)) ≡ readUnder a p m s keys
+  by-fault : (n : ℕ) → firstOf (oneCallFaults A keys (length (covered s)) (coveredBits s) (tagLengthWrong (A .m) (length (tagNamed s)))) ≡ n
+      → verdict s (pick (eqb n 0) (pick same (Yes (sealCalls A s keys)) (No (sealCalls A s keys))) (Refused n)) ≡ readUnder A s keys
   unfolding pick verdict sealWrong
-  by-number zero e = yes-or-no same (sealCalls a p m s keys) ∙ check-made same (sym (check-first s ok a p m keys) ∙ e) refl
+  by-fault zero e = yes-or-no same (sealCalls A s keys) ∙ check-made same (sym (check-first s ok A keys) ∙ e) refl
     where
       yes-or-no : (b : Bool) (n : ℕ) → verdict s (pick b (Yes n) (No n)) ≡ pick b (acceptedSlip s n) (refusedSlip 30)
       yes-or-no true n = refl
       yes-or-no false n = refl
-  by-number (suc n) e = rw (ne-eqb (suc n) 0 (λ z. absurd (omega arith))) (check-refused (suc n) (sym e ∙ check-first s ok a p m keys) (λ z. absurd (omega arith)))
+  by-fault (suc n) e = rw (ne-eqb (suc n) 0 (λ z. absurd (omega arith))) (check-refused (suc n) (sym e ∙ check-first s ok A keys) (λ z. absurd (omega arith)))
 
-  pub judged : verdict s (checkOf a p m keys (covered s) (coveredBits s) (tagNamed s)) ≡ readUnder a p m s keys
-  unfolding checkOf sealDefined sealCalls
-  judged = by-number _ refl
+  pub judged : verdict s (checkOf A keys (covered s) (coveredBits s) (tagNamed s)) ≡ readUnder A s keys
+  unfolding checkOf checkedBy sealDefined sealCalls
+  judged = by-fault _ refl
 
 -- the fields were refused: so is the slip
-pub layout-refused : (a p m : ℕ) (s keys : List ℕ) (n : ℕ) → n ≡ firstOf (layoutFaults s) → (n ≡ 0 → ⊥) → refusedSlip n ≡ readUnder a p m s keys
+pub layout-refused : (A : Agreement) (s keys : List ℕ) (n : ℕ) → n ≡ firstOf (layoutFaults s) → (n ≡ 0 → ⊥) → refusedSlip n ≡ readUnder A s keys
 unfolding readUnder faultsUnder pick
-layout-refused a p m s keys n e some =
-    let whole : firstOf (faultsUnder a p m s keys) ≡ n = first-append (layoutFaults s) _ (λ z. some (e ∙ z)) ∙ sym e in
+layout-refused A s keys n e some =
+    let whole : firstOf (faultsUnder A s keys) ≡ n = first-append (layoutFaults s) _ (λ z. some (e ∙ z)) ∙ sym e in
     rw (whole, ne-eqb n 0 some) refl
 
 -- ---- a slip that is not refused
 
-pub record Believed (a p m : ℕ) (s keys : List ℕ) : Type 0 where
+pub record Believed (A : Agreement) (s keys : List ℕ) : Type 0 where
   pub fields : LaidOut s
-  pub settings : firstOf (settingsFaults a p m (length keys) (keysOf keys)) ≡ 0
-  pub tag-length : tagLengthWrong m (length (tagNamed s)) ≡ false
-  pub seal : sealWrong a p m s keys ≡ false
+  pub settings : firstOf (agreementFaults A keys) ≡ 0
+  pub tag-length : tagLengthWrong (A .m) (length (tagNamed s)) ≡ false
+  pub seal : sealWrong A s keys ≡ false
 
-slip-numbered : (a p m : ℕ) (s keys : List ℕ) → Numbered (faultsUnder a p m s keys)
+slip-numbered : (A : Agreement) (s keys : List ℕ) → Numbered (faultsUnder A s keys)
 unfolding faultsUnder
-slip-numbered a p m s keys = numbered-append (layout-numbered s) (numbered-append (settings-alone a p m (length keys) (keysOf keys)) (also {k = 10} (omega arith) (also {k = 30} (omega arith) none)))
+slip-numbered A s keys = numbered-append (layout-numbered s) (numbered-append (agreement-numbered A keys) (also {k = 10} (omega arith) (also {k = 30} (omega arith) none)))
 
-pub believed : (a p m : ℕ) (s keys : List ℕ) → firstOf (faultsUnder a p m s keys) ≡ 0 → Believed a p m s keys
+pub believed : (A : Agreement) (s keys : List ℕ) → firstOf (faultsUnder A s keys) ≡ 0 → Believed A s keys
 unfolding faultsUnder
-believed a p m s keys e =
-    let all = first-clear (faultsUnder a p m s keys) (slip-numbered a p m s keys) e in
+believed A s keys e =
+    let all = first-clear (faultsUnder A s keys) (slip-numbered A s keys) e in
     let in-fields = clear-append (layoutFaults s) _ all in
-    let in-settings = clear-append (settingsFaults a p m (length keys) (keysOf keys)) _ (in-fields .1) in
+    let in-settings = clear-append (agreementFaults A keys) _ (in-fields .1) in
     last (laid-out s (clear-first (in-fields .0))) (clear-first (in-settings .0)) (in-settings .1)
   where
-    last : LaidOut s → firstOf (settingsFaults a p m (length keys) (keysOf keys)) ≡ 0 → Clear (10 given tagLengthWrong m (length (tagNamed s)) ∷ 30 given sealWrong a p m s keys ∷ []) → Believed a p m s keys
+    last : LaidOut s → firstOf (agreementFaults A keys) ≡ 0 → Clear (10 given tagLengthWrong (A .m) (length (tagNamed s)) ∷ 30 given sealWrong A s keys ∷ []) → Believed A s keys
     last ok sound (passed e (passed f done)) = record { fields = ok; settings = sound; tag-length = e; seal = f }
 
 -- ---- where the lot lies
@@ -200,12 +216,16 @@ lot-in : (s : List ℕ) → LaidOut s → lotAt s + 3 + lengthOf (lotField s) �
 unfolding lotField
 lot-in s ok = omega (arith, length-drop (lotAt s) s, ok .lot .whole)
 
-lot-fits : (a p m : ℕ) (s keys : List ℕ) (calls n : ℕ) → firstOf (faultsUnder a p m s keys) ≡ n
-    → pick (eqb n 0) (acceptedSlip s calls) (refusedSlip n) .place + pick (eqb n 0) (acceptedSlip s calls) (refusedSlip n) .length ≤ length s
-unfolding pick acceptedSlip refusedSlip
-lot-fits a p m s keys calls zero e = lot-in s (believed a p m s keys e .fields)
-lot-fits a p m s keys calls (suc n) e = rw (ne-eqb (suc n) 0 (λ z. absurd (omega arith))) (omega arith)
+lot-fits : (A : Agreement) (s keys : List ℕ) (calls n : ℕ) → firstOf (faultsUnder A s keys) ≡ n
+    → pick (eqb n 0) (acceptedSlip s calls) (refusedSlip n) .contents .«lot_at» + pick (eqb n 0) (acceptedSlip s calls) (refusedSlip n) .contents .«lot_len» ≤ length s
+unfolding pick acceptedSlip contentsOf refusedSlip
+lot-fits A s keys calls zero e = lot-in s (believed A s keys e .fields)
+lot-fits A s keys calls (suc n) e = rw (ne-eqb (suc n) 0 (λ z. absurd (omega arith))) (omega arith)
 
-pub lot-inside : (s keys : List ℕ) → readOf s keys .place + readOf s keys .length ≤ length s
+lot-inside : (s keys : List ℕ) → readOf s keys .contents .«lot_at» + readOf s keys .contents .«lot_len» ≤ length s
 unfolding readOf readUnder
-lot-inside s keys = lot-fits (algorithmNamed s) (paddingNamed s) (mNamed s) s keys _ _ refl
+lot-inside s keys = lot-fits (agreementNamed s) s keys _ _ refl
+
+pub lot-there : (s : RefT (List ℕ)) (keys : List ℕ) → lotPart s (readOf (now s) keys .contents) ≡ lotPartIn s (readOf (now s) keys .contents)
+unfolding lotPartIn
+lot-there s keys = hit _ _ _ _ (le-leb _ _ (lot-inside (now s) keys)) refl

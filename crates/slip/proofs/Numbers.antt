@@ -8,22 +8,22 @@ use mathlib.Core.List.{List}
 use Prim.Native.Nat.{ℕ, zero, suc, _+_}
 use native.Mathlib.Omega.{arith}
 use lib.Dec.{eqb, leb}
-use lib.ListN.{length, take}
+use lib.ListN.{take}
 use lib.Seq.{drop-drop}
 use denote.Ref.{ptr, now}
 use contract.Lifetimes.{Lfts}
 use borrow.Fn.Kinds.{Dens}
 use borrow.Author.Tests.{ne-eqb}
 use Rattle.bits.specs.Choice.{pick, Fault, firstOf}
-use Rattle.bits.specs.Once.{Answer}
+use Rattle.bits.specs.Once.{Allowed}
 use Rattle.bits.proofs.Faults.{Every, all, with, every-append, every-first}
 use Rattle.settings.specs.Faults.{settingsFaults}
-use Rattle.fields.specs.Field.{headFaults, lengthOf, value}
-use Rattle.fields.specs.Date.{yearOf, monthOf, dayOf}
-use Rattle.fields.specs.Layout.{lotAt, lotField, amountField, amountOf, expiryFaults, lotFaults, amountFaults, sealFaults, layoutFaults}
+use Rattle.fields.specs.Field.{fieldFaults, lengthOf, value}
+use Rattle.fields.specs.Layout.{lotAt, lotField, expiryFaults, lotFaults, amountFaults, sealFaults, layoutFaults}
+use Rattle.fields.specs.declared.Row.{Row}
 use Rattle.fields.proofs.Laid.{lot-place}
-use Rattle.slip.specs.Part.{seen, partOf}
-use Rattle.slip.specs.Slip.{algorithmNamed, paddingNamed, mNamed, sealCalls, faultsUnder, slipFaults, acceptedSlip, refusedSlip, readUnder, readOf}
+use Rattle.slip.specs.Part.{seen, partOf, lotPart}
+use Rattle.slip.specs.Slip.{agreementNamed, sealCalls, faultsUnder, slipFaults, contentsOf, acceptedSlip, refusedSlip, readUnder, readOf}
 use Rattle.slip.specs.declared.Slip.{Slip}
 use Rattle.slip.proofs.Judged.{believed}
 use Rattle.slip.proofs.Whole.{Accepted, Bytewise, Whole, whole}
@@ -34,7 +34,7 @@ use Rattle.slip.proofs.lot.Reads as lot
 
 -- ---- the two kinds of answer
 
-pub accepted-is : (s keys : List ℕ) → Accepted s keys → readOf s keys ≡ acceptedSlip s (sealCalls (algorithmNamed s) (paddingNamed s) (mNamed s) s keys)
+pub accepted-is : (s keys : List ℕ) → Accepted s keys → readOf s keys ≡ acceptedSlip s (sealCalls (agreementNamed s) s keys)
 unfolding readOf readUnder slipFaults pick
 accepted-is s keys e = rw e refl
 
@@ -51,17 +51,17 @@ slipNumber n = leb n 6 || (eqb n 10 || ((leb 20 n && leb n 24) || eqb n 30))
 abbrev Of-slip : List Fault → Type 0
 Of-slip fs = Every (λ n. slipNumber n ≡ true) fs
 
-head-numbers : (tag least most : ℕ) (field : List ℕ) → Of-slip (headFaults tag least most field)
-unfolding headFaults slipNumber
-head-numbers tag least most field = with refl (with refl (with refl (with refl all)))
+field-numbers : (row : Row) (field : List ℕ) → Of-slip (fieldFaults row field)
+unfolding fieldFaults slipNumber
+field-numbers row field = with refl (with refl (with refl (with refl (with refl all))))
 
 layout-numbers : (s : List ℕ) → Of-slip (layoutFaults s)
 unfolding layoutFaults expiryFaults lotFaults amountFaults sealFaults slipNumber
 layout-numbers s =
-    every-append (every-append (head-numbers 0x01 8 8 s) (with refl (with refl all)))
-    (every-append (every-append (head-numbers 0x02 1 32 (lotField s)) (with refl all))
-    (every-append (every-append (head-numbers 0x03 4 4 _) (with refl all))
-    (every-append (head-numbers 0x7f 4 19 _) (with refl all))))
+    every-append (every-append (field-numbers _ s) (with refl all))
+    (every-append (field-numbers _ (lotField s))
+    (every-append (every-append (field-numbers _ _) (with refl all))
+    (every-append (field-numbers _ _) (with refl all))))
 
 pub slip-numbers : (s keys : List ℕ) → slipNumber (firstOf (slipFaults s keys)) ≡ true
 unfolding slipFaults faultsUnder settingsFaults slipNumber
@@ -91,7 +91,7 @@ module _ (s : List ℕ) (calls : ℕ) where
 
 -- ---- of every answer of the code
 
-module _ (κs : Lfts 2) (a : Dens κs read-k.ps) (x : Answer read-k.ps read-k.r read.Learnt κs a) where
+module _ (κs : Lfts 2) (a : Dens κs read-k.ps) (x : Allowed read-k.ps read-k.r read.Learnt κs a) where
   -- the first fault of the slip
   abbrev fault : ℕ
   fault = firstOf (slipFaults (a .0 .now) (a .1 .0 .now))
@@ -100,7 +100,7 @@ module _ (κs : Lfts 2) (a : Dens κs read-k.ps) (x : Answer read-k.ps read-k.r 
   unfolding readOf readUnder slipFaults
   read-number = ap (λ (r : Slip). r .number) (x .ensures) ∙ chosen-number (a .0 .now) _ fault
 
-  pub read-calls : x .result .calls ≡ pick (eqb fault 0) (sealCalls (algorithmNamed (a .0 .now)) (paddingNamed (a .0 .now)) (mNamed (a .0 .now)) (a .0 .now) (a .1 .0 .now)) 0
+  pub read-calls : x .result .calls ≡ pick (eqb fault 0) (sealCalls (agreementNamed (a .0 .now)) (a .0 .now) (a .1 .0 .now)) 0
   unfolding readOf readUnder slipFaults
   read-calls = ap (λ (r : Slip). r .calls) (x .ensures) ∙ chosen-calls (a .0 .now) _ (eqb fault 0) fault
 
@@ -108,30 +108,28 @@ module _ (κs : Lfts 2) (a : Dens κs read-k.ps) (x : Answer read-k.ps read-k.r 
   pub read-zeros : ¬ (fault ≡ 0) → x .result ≡ refusedSlip fault
   read-zeros h = x .ensures ∙ refused-is (a .0 .now) (a .1 .0 .now) h
 
-  -- an accepted one: the date and the amount that its fields name
-  pub read-fields : fault ≡ 0 → (x .result .year ≡ yearOf (a .0 .now)) × ((x .result .month ≡ monthOf (a .0 .now)) × ((x .result .day ≡ dayOf (a .0 .now)) × (x .result .amount ≡ amountOf (amountField (a .0 .now)))))
+  -- an accepted one: what its fields say
+  pub read-fields : fault ≡ 0 → x .result .contents ≡ contentsOf (a .0 .now)
   unfolding acceptedSlip
-  read-fields h =
-      let e = x .ensures ∙ accepted-is (a .0 .now) (a .1 .0 .now) h in
-      (ap (λ (r : Slip). r .year) e, (ap (λ (r : Slip). r .month) e, (ap (λ (r : Slip). r .day) e, ap (λ (r : Slip). r .amount) e)))
+  read-fields h = ap (λ (r : Slip). r .contents) (x .ensures ∙ accepted-is (a .0 .now) (a .1 .0 .now) h)
 
   -- a slip that was accepted was judged whole
   pub read-whole : Bytewise (a .0 .now) → x .result .number ≡ 0 → Whole (a .0 .now) (a .1 .0 .now)
   read-whole fit e = whole (a .0 .now) (a .1 .0 .now) fit (sym read-number ∙ e)
 
-module _ (κs : Lfts 2) (a : Dens κs lot-k.ps) (x : Answer lot-k.ps lot-k.r lot.Learnt κs a) where
+module _ (κs : Lfts 2) (a : Dens κs lot-k.ps) (x : Allowed lot-k.ps lot-k.r lot.Learnt κs a) where
   -- an accepted slip's lot is the value of its field 02, and begins at its byte 14
   pub lot-of-accepted : Accepted (a .0 .now) (a .1 .0 .now) → (ptr (x .result) ≡ (ptr (a .0) .0, 14 + ptr (a .0) .1)) × (now (x .result) ≡ value (lotField (a .0 .now)))
-  unfolding acceptedSlip value lotField slipFaults
+  unfolding acceptedSlip contentsOf value lotField slipFaults
   lot-of-accepted h =
       let s = a .0 .now in
       let keys = a .1 .0 .now in
-      let good = believed (algorithmNamed s) (paddingNamed s) (mNamed s) s keys h in
+      let good = believed (agreementNamed s) s keys h in
       let at : lotAt s + 3 ≡ 14 = omega (arith, lot-place s (good .fields)) in
-      let e : seen (x .result) ≡ partOf (a .0) (lotAt s + 3) (lengthOf (lotField s)) = x .ensures ∙ ap (λ (r : Slip). partOf (a .0) (r .place) (r .length)) (accepted-is s keys h) in
+      let e : seen (x .result) ≡ partOf (a .0) (lotAt s + 3) (lengthOf (lotField s)) = x .ensures ∙ ap (λ (r : Slip). lotPart (a .0) (r .contents)) (accepted-is s keys h) in
       (ap (λ (r : (ℕ × ℕ) × List ℕ). r .0) e ∙ ap (λ (k : ℕ). (ptr (a .0) .0, k + ptr (a .0) .1)) at, ap (λ (r : (ℕ × ℕ) × List ℕ). r .1) e ∙ ap (take (lengthOf (lotField s))) (sym (drop-drop 3 (lotAt s) s)))
 
   -- a refused one's is the slip's first zero bytes
   pub lot-of-refused : ¬ Accepted (a .0 .now) (a .1 .0 .now) → seen (x .result) ≡ partOf (a .0) 0 0
   unfolding refusedSlip
-  lot-of-refused h = x .ensures ∙ ap (λ (r : Slip). partOf (a .0) (r .place) (r .length)) (refused-is (a .0 .now) (a .1 .0 .now) h)
+  lot-of-refused h = x .ensures ∙ ap (λ (r : Slip). lotPart (a .0) (r .contents)) (refused-is (a .0 .now) (a .1 .0 .now) h)

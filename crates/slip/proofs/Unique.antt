@@ -1,4 +1,4 @@
--- No second answer satisfies either public function's contract; of a returned part only its ghost name is left out, which no program
+-- No second answer satisfies any public function's contract; of a returned part only its ghost name is left out, which no program
 -- can see: its place in memory and its bytes are fixed.
 -- Assumes nothing.
 use mathlib.Core.Path.{refl}
@@ -7,11 +7,16 @@ use Rattle.bits.proofs.Same.{same}
 use Rattle.slip.specs.Part.{seen}
 use Rattle.slip.proofs.read.Kinds as read-k
 use Rattle.slip.proofs.read.Reads as read
+use Rattle.slip.proofs.lot_in.Kinds as lot-in-k
+use Rattle.slip.proofs.lot_in.Reads as lot-in
 use Rattle.slip.proofs.lot.Kinds as lot-k
 use Rattle.slip.proofs.lot.Reads as lot
 
 pub read-unique : Unique read-k.ps read-k.r read.Asked read.Learnt
 read-unique κs a g p x y = (same (x .ensures) (y .ensures), refl)
+
+pub lot-in-unique : UniqueBy lot-in-k.ps lot-in-k.r lot-in.Asked lot-in.Learnt (λ κs z. seen z)
+lot-in-unique κs a g p x y = (same (x .ensures) (y .ensures), refl)
 
 pub lot-unique : UniqueBy lot-k.ps lot-k.r lot.Asked lot.Learnt (λ κs z. seen z)
 lot-unique κs a g p x y = (same (x .ensures) (y .ensures), refl)

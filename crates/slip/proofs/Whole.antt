@@ -1,4 +1,4 @@
--- An accepted slip was judged whole: every byte of it is a field's tag or length, a checked value, a setting, or a compared seal
+-- An accepted slip was judged whole: every byte of it is a field's label or length, a checked value, a setting, or a compared seal
 -- byte (`whole`). At the scanner: a yes stands for all bytes of the slip, not for those that the first read brought.
 --
 -- `equal-slips`: two accepted slips under the same keys that agree in the covered bytes, the algorithm, the padding and m are equal.
@@ -27,15 +27,19 @@ use Rattle.mac.specs.Tag.{bitsOf, tagBytes}
 use Rattle.mac.proofs.OneBlock.{Apart}
 use Rattle.mac.proofs.TagBytes.{tagBytes-fit}
 use Rattle.mac.proofs.Promised.{Promised, fullBytes, promised-at}
-use Rattle.settings.specs.Keys.{keysOf}
+use Rattle.keys.specs.Given.{keysOf}
+use Rattle.settings.specs.Answers.{settingsOf}
+use Rattle.settings.specs.declared.Settings.{Settings}
 use Rattle.tag.specs.OneCall.{tagAt}
-use Rattle.fields.specs.Field.{lengthOf, value}
+use Rattle.fields.specs.Format.{expiryRow, lotRow, amountRow, sealRow}
+use Rattle.fields.specs.Field.{lengthOf, value, fieldOf}
 use Rattle.fields.specs.Date.{yearOf, monthOf, dayOf}
 use Rattle.fields.specs.Layout.{sealAt, lotField, amountField, sealField, covered, amountOf}
-use Rattle.fields.proofs.Heads.{Within, within-all, end-whole}
+use Rattle.fields.proofs.Formed.{Within, within-all, end-whole}
 use Rattle.fields.proofs.Dates.{Real, real-date}
-use Rattle.fields.proofs.Whole.{fieldOf, value-long, seal-alone, covered-then-seal, four-fields}
-use Rattle.slip.specs.Slip.{algorithmNamed, paddingNamed, mNamed, tagNamed, sealDefined, sealWrong, slipFaults}
+use Rattle.fields.proofs.Whole.{value-long, seal-alone, covered-then-seal, four-fields}
+use Rattle.slip.specs.Slip.{sealValue, agreementNamed, tagNamed, sealDefined, sealWrong, slipFaults}
+use Rattle.settings.specs.declared.Agreement.{Agreement}
 use Rattle.slip.proofs.Judged.{Believed, believed}
 
 -- no rule refuses the slip
@@ -50,10 +54,10 @@ Bytewise s = (i : ℕ) → getD s i 0 < 256
 
 -- the seal that the slip's own settings give
 abbrev pub sealOf : List ℕ → List ℕ → List ℕ
-sealOf s keys = sealDefined (algorithmNamed s) (paddingNamed s) (mNamed s) s keys
+sealOf s keys = sealDefined (agreementNamed s) s keys
 
 pub record Whole (s keys : List ℕ) : Type 0 where
-  pub bytes : s ≡ fieldOf 0x01 (value s) ++ (fieldOf 0x02 (value (lotField s)) ++ (fieldOf 0x03 (value (amountField s)) ++ fieldOf 0x7f (algorithmNamed s ∷ paddingNamed s ∷ mNamed s ∷ sealOf s keys)))
+  pub bytes : s ≡ fieldOf expiryRow (value s) ++ (fieldOf lotRow (value (lotField s)) ++ (fieldOf amountRow (value (amountField s)) ++ fieldOf sealRow (sealValue (agreementNamed s) (sealOf s keys))))
   pub expiry-length : length (value s) ≡ 8
   pub digits : (i : ℕ) → i < length (value s) → Within 0x30 0x39 (getD (value s) i 0)
   pub date : Real (yearOf s) (monthOf s) (dayOf s)
@@ -65,9 +69,9 @@ pub record Whole (s keys : List ℕ) : Type 0 where
 -- ---- the seal
 
 module _ (s keys : List ℕ) (fit : Bytewise s) (yes : Accepted s keys) where
-  good : Believed (algorithmNamed s) (paddingNamed s) (mNamed s) s keys
+  good : Believed (agreementNamed s) s keys
   unfolding slipFaults
-  good = believed (algorithmNamed s) (paddingNamed s) (mNamed s) s keys yes
+  good = believed (agreementNamed s) s keys yes
 
   fit-seal : Bytewise (sealField s)
   unfolding sealField
@@ -92,13 +96,13 @@ module _ (s keys : List ℕ) (fit : Bytewise s) (yes : Accepted s keys) where
   pub tag-defined : tagNamed s ≡ sealOf s keys
   unfolding sealWrong sealDefined
   tag-defined =
-      let T = tagAt (algorithmNamed s) (paddingNamed s) (mNamed s) (keysOf keys) (covered s) (8 * length (covered s)) in
+      let T = tagAt (settingsOf (agreementNamed s)) (keysOf keys) (covered s) (8 * length (covered s)) in
       let same = sameB-eq (bytesBits (tagNamed s)) (bytesBits (tagBytes T)) (not-false _ (good .seal)) in
       bytesBits-inj (tagNamed s) (tagBytes T) fit-tag (tagBytes-fit T) (omega (arith, length-bytesBits (tagNamed s), length-bytesBits (tagBytes T), ap length same)) same
 
   -- algorithm, padding and m stand before them
-  named-first : value (sealField s) ≡ algorithmNamed s ∷ paddingNamed s ∷ mNamed s ∷ tagNamed s
-  unfolding algorithmNamed paddingNamed mNamed tagNamed
+  named-first : value (sealField s) ≡ sealValue (agreementNamed s) (tagNamed s)
+  unfolding agreementNamed tagNamed
   named-first =
       let f = sealField s in
       let long = ok-long in
@@ -109,20 +113,20 @@ module _ (s keys : List ℕ) (fit : Bytewise s) (yes : Accepted s keys) where
       ∙ ap (λ (x : ℕ). x ∷ drop 3 (value f)) (at 2)))
     where
       ok-long : 4 ≤ length (value (sealField s))
-      ok-long = omega (arith, value-long 0x7f 4 19 (sealField s) (good .fields .seal), good .fields .seal .allowed .low)
+      ok-long = omega (arith, value-long sealRow (sealField s) (good .fields .seal), good .fields .seal .allowed .low)
 
-  pub seal-is : sealField s ≡ fieldOf 0x7f (algorithmNamed s ∷ paddingNamed s ∷ mNamed s ∷ sealOf s keys)
-  seal-is = seal-alone s (good .fields) ∙ ap (fieldOf 0x7f) (named-first ∙ ap (λ (t : List ℕ). algorithmNamed s ∷ paddingNamed s ∷ mNamed s ∷ t) tag-defined)
+  pub seal-is : sealField s ≡ fieldOf sealRow (sealValue (agreementNamed s) (sealOf s keys))
+  seal-is = seal-alone s (good .fields) ∙ ap (fieldOf sealRow) (named-first ∙ ap (sealValue (agreementNamed s)) tag-defined)
 
   pub whole : Whole s keys
   whole = record {
-    bytes = four-fields s (good .fields) ∙ ap (λ (v : List ℕ). fieldOf 0x01 (value s) ++ (fieldOf 0x02 (value (lotField s)) ++ (fieldOf 0x03 (value (amountField s)) ++ v))) (sym (seal-alone s (good .fields)) ∙ seal-is);
-    expiry-length = omega (arith, value-long 0x01 8 8 s (good .fields .expiry), good .fields .expiry .allowed .low, good .fields .expiry .allowed .high);
-    digits = within-all 0x30 0x39 (value s) (good .fields .digits);
+    bytes = four-fields s (good .fields) ∙ ap (λ (v : List ℕ). fieldOf expiryRow (value s) ++ (fieldOf lotRow (value (lotField s)) ++ (fieldOf amountRow (value (amountField s)) ++ v))) (sym (seal-alone s (good .fields)) ∙ seal-is);
+    expiry-length = omega (arith, value-long expiryRow s (good .fields .expiry), good .fields .expiry .allowed .low, good .fields .expiry .allowed .high);
+    digits = within-all 0x30 0x39 (value s) (good .fields .expiry .bytes);
     date = real-date (yearOf s) (monthOf s) (dayOf s) (good .fields .date);
-    lot-length = subst (Within 1 32) (sym (value-long 0x02 1 32 (lotField s) (good .fields .lot))) (good .fields .lot .allowed);
-    visible = within-all 0x21 0x7e (value (lotField s)) (good .fields .visible);
-    amount-length = omega (arith, value-long 0x03 4 4 (amountField s) (good .fields .amount), good .fields .amount .allowed .low, good .fields .amount .allowed .high);
+    lot-length = subst (Within 1 32) (sym (value-long lotRow (lotField s) (good .fields .lot))) (good .fields .lot .allowed);
+    visible = within-all 0x21 0x7e (value (lotField s)) (good .fields .lot .bytes);
+    amount-length = omega (arith, value-long amountRow (amountField s) (good .fields .amount), good .fields .amount .allowed .low, good .fields .amount .allowed .high);
     microlitres = good .fields .microlitres;
   }
 
@@ -137,26 +141,25 @@ fit-covered s fit i = go (ltb i (sealAt s)) refl
     go false e = subst (λ (x : ℕ). x < 256) (sym (List·getD-eq-default (take (sealAt s) s) 0 (omega (arith, length-take (sealAt s) s, ltb-false i (sealAt s) e)))) (omega arith)
 
 module _ (s t keys : List ℕ) (fits : Bytewise s) (fitt : Bytewise t) (yes-s : Accepted s keys) (yes-t : Accepted t keys)
-    (same-a : algorithmNamed s ≡ algorithmNamed t) (same-p : paddingNamed s ≡ paddingNamed t) (same-m : mNamed s ≡ mNamed t) where
+    (agree : agreementNamed s ≡ agreementNamed t) where
   pub equal-slips : covered s ≡ covered t → s ≡ t
   unfolding sealDefined
   equal-slips e =
       covered-then-seal s (good s keys fits yes-s .fields)
-      ∙ ap₂ _++_ e (seal-is s keys fits yes-s ∙ rw (same-a, same-p, same-m, e) refl ∙ sym (seal-is t keys fitt yes-t))
+      ∙ ap₂ _++_ e (seal-is s keys fits yes-s ∙ rw (agree, e) refl ∙ sym (seal-is t keys fitt yes-t))
       ∙ sym (covered-then-seal t (good t keys fitt yes-t .fields))
 
   -- the seal of a slip under t's settings at full length, as demand 3 speaks of it
-  full-seal : (x : List ℕ) → sealDefined (algorithmNamed t) (paddingNamed t) 128 x keys ≡ fullBytes (cipherAt 1) (algorithmAt (algorithmNamed t)) (methodAt (paddingNamed t)) (keysOf keys) (bytesBits (covered x))
+  full-seal : agreementNamed t .m ≡ 128 → (x : List ℕ) → sealDefined (agreementNamed t) x keys ≡ fullBytes (cipherAt 1) (algorithmAt (agreementNamed t .algorithm)) (methodAt (agreementNamed t .padding)) (keysOf keys) (bytesBits (covered x))
   unfolding sealDefined tagAt bitsOf
-  full-seal x =
-      ap (λ (m : ℕ). sealDefined (algorithmNamed t) (paddingNamed t) m x keys) (sym sm4-width)
-      ∙ ap (fullBytes (cipherAt 1) (algorithmAt (algorithmNamed t)) (methodAt (paddingNamed t)) (keysOf keys)) (take-all (8 * length (covered x)) (bytesBits (covered x)) (omega (arith, length-bytesBits (covered x))))
+  full-seal full x =
+      ap (λ (m : ℕ). tagBytes (tagAt (record { algorithm = agreementNamed t .algorithm; padding = agreementNamed t .padding; m = m }) (keysOf keys) (covered x) (8 * length (covered x)))) (full ∙ sym sm4-width)
+      ∙ ap (fullBytes (cipherAt 1) (algorithmAt (agreementNamed t .algorithm)) (methodAt (agreementNamed t .padding)) (keysOf keys)) (take-all (8 * length (covered x)) (bytesBits (covered x)) (omega (arith, length-bytesBits (covered x))))
 
-  pub seals-differ : mNamed t ≡ 128 → (j : ℕ) → Apart 128 j (bytesBits (covered s)) (bytesBits (covered t)) → ¬ (s ≡ t) → ¬ (tagNamed s ≡ tagNamed t)
+  pub seals-differ : agreementNamed t .m ≡ 128 → (j : ℕ) → Apart 128 j (bytesBits (covered s)) (bytesBits (covered t)) → ¬ (s ≡ t) → ¬ (tagNamed s ≡ tagNamed t)
   seals-differ full j h differ e =
       let long : length (covered s) ≡ length (covered t) = omega (arith, h .same-length, length-bytesBits (covered s), length-bytesBits (covered t)) in
-      let of-s : tagNamed s ≡ sealDefined (algorithmNamed t) (paddingNamed t) 128 s keys = tag-defined s keys fits yes-s ∙ rw (same-a, same-p, same-m, full) refl in
-      let of-t : tagNamed t ≡ sealDefined (algorithmNamed t) (paddingNamed t) 128 t keys = tag-defined t keys fitt yes-t ∙ ap (λ (m : ℕ). sealDefined (algorithmNamed t) (paddingNamed t) m t keys) full in
-      promised-at 1 (algorithmAt (algorithmNamed t)) (methodAt (paddingNamed t)) (keysOf keys) .differs-bytes j (bytesBits (covered s)) (bytesBits (covered t)) (subst (λ (k : ℕ). Apart k j (bytesBits (covered s)) (bytesBits (covered t))) (sym sm4-width) h)
+      let of-s : tagNamed s ≡ sealDefined (agreementNamed t) s keys = tag-defined s keys fits yes-s ∙ ap (λ (A : Agreement). sealDefined A s keys) agree in
+      promised-at 1 (algorithmAt (agreementNamed t .algorithm)) (methodAt (agreementNamed t .padding)) (keysOf keys) .differs-bytes j (bytesBits (covered s)) (bytesBits (covered t)) (subst (λ (k : ℕ). Apart k j (bytesBits (covered s)) (bytesBits (covered t))) (sym sm4-width) h)
       (λ same. differ (equal-slips (bytesBits-inj (covered s) (covered t) (fit-covered s fits) (fit-covered t fitt) long same)))
-      (sym (full-seal s) ∙ sym of-s ∙ e ∙ of-t ∙ full-seal t)
+      (sym (full-seal full s) ∙ sym of-s ∙ e ∙ tag-defined t keys fitt yes-t ∙ full-seal full t)

@@ -1,83 +1,78 @@
-// A lot slip, read whole under the caller's keys: believed, or refused with its number. The seal's algorithm, padding and m are
-// parameters of the inner function; that they are the ones the slip names is the outer function's doing.
+// A lot slip, read whole under the caller's keys: believed, or refused with its number. Where its fields stand is found once. The
+// seal is checked under settings that the inner function is given; that they are the ones the slip names is the outer one's doing.
 ghost use mathlib.Core.Path.{_≡_};
 ghost use Rattle.bits.specs.Choice.{firstOf};
-ghost use Rattle.fields.specs.Layout.{layoutFaults};
-ghost use Rattle.slip.specs.Slip.{refusedSlip, acceptedSlip, readUnder, readOf};
-ghost use Rattle.slip.specs.Part.{seen, partOf};
+ghost use Rattle.fields.specs.Layout.{placesOf, layoutFaults};
+ghost use Rattle.slip.specs.Slip.{contentsOf, refusedSlip, readUnder, readOf};
+ghost use Rattle.slip.specs.Part.{seen, lotPart, lotPartIn};
 
-// What is read from a slip. Accepted: number 0, the date, the amount in microlitres, the cipher calls of its check, and the place
-// and length of the lot in the slip. Refused: the number, and zeros.
-#[repr(C)]
-pub struct Slip {
-    pub number: usize,
+// What a slip says: the expiry, the amount in microlitres, and where in the slip the lot lies.
+pub struct Contents {
     pub year: usize,
     pub month: usize,
     pub day: usize,
     pub amount: usize,
+    pub lot_at: usize,
+    pub lot_len: usize,
+}
+
+// What is read from a slip. Accepted: number 0, the cipher calls of its check, and what it says. Refused: the number, and zeros.
+pub struct Slip {
+    pub number: usize,
     pub calls: usize,
-    pub place: usize,
-    pub length: usize,
+    pub contents: Contents,
 }
 
 fn refused(number: usize) -> Slip
     ensures { λ r. ⌜ r ≡ refusedSlip number ⌝ }
 {
-    Slip {
-        number,
+    let contents = Contents {
         year: 0,
         month: 0,
         day: 0,
         amount: 0,
+        lot_at: 0,
+        lot_len: 0,
+    };
+    Slip {
+        number,
         calls: 0,
-        place: 0,
-        length: 0,
+        contents,
     }
 }
 
-// The answer for a slip whose fields and seal are good.
-fn accepted(slip: &[u8], calls: usize) -> Slip
-    requires { ⌜ firstOf (layoutFaults (now slip)) ≡ 0 ⌝ }
-    ensures { λ r. ⌜ r ≡ acceptedSlip (now (slip .entry)) calls ⌝ }
+// What a slip without a fault in its fields says.
+fn contents_of(slip: &[u8], at: fields::Places) -> Contents
+    requires { ⌜ (at ≡ placesOf (now slip)) × (firstOf (layoutFaults (now slip)) ≡ 0) ⌝ }
+    ensures { λ r. ⌜ r ≡ contentsOf (now (slip .entry)) ⌝ }
 {
-    let at = fields::field_places(slip);
     let lot = at.lot;
     let amount = at.amount;
-    Slip {
-        number: 0,
+    Contents {
         year: fields::year(slip),
         month: fields::month(slip),
         day: fields::day(slip),
         amount: fields::amount(&slip[amount..]),
-        calls,
-        place: lot + 3,
-        length: fields::lot_length(&slip[lot..]),
+        lot_at: lot + 3,
+        lot_len: fields::lot_length(&slip[lot..]),
     }
 }
 
-// A slip read with the seal's settings given.
-fn read_under(algorithm: usize, padding: usize, m: usize, slip: &[u8], keys: &[u8]) -> Slip
-    ensures { λ r. ⌜ r ≡ readUnder algorithm padding m (now (slip .entry)) (now (keys .entry)) ⌝ }
+// A slip without a fault in its fields, by its seal under what was agreed.
+fn read_under(agreed: settings::Agreement, slip: &[u8], at: fields::Places, keys: &[u8]) -> Slip
+    requires { ⌜ (at ≡ placesOf (now slip)) × (firstOf (layoutFaults (now slip)) ≡ 0) ⌝ }
+    ensures { λ r. ⌜ r ≡ readUnder agreed (now (slip .entry)) (now (keys .entry)) ⌝ }
 {
-    let no = fields::layout_refusal(slip);
-    if no != 0 {
-        return refused(no);
-    }
-    let at = fields::field_places(slip);
     let seal = at.seal;
-    let tag = seal + 6;
-    let answer = tag::check(
-        algorithm,
-        padding,
-        m,
-        keys,
-        &slip[..seal],
-        8 * seal,
-        &slip[tag..],
-    );
+    let tag_at = seal + 6;
+    let answer = tag::check(agreed, keys, &slip[..seal], 8 * seal, &slip[tag_at..]);
     match answer {
-        settings::Answer::Refused(number) => refused(number),
-        settings::Answer::Yes(calls) => accepted(slip, calls),
+        settings::Outcome::Refused(number) => refused(number),
+        settings::Outcome::Yes(calls) => Slip {
+            number: 0,
+            calls,
+            contents: contents_of(slip, at),
+        },
         _ => refused(30),
     }
 }
@@ -86,24 +81,43 @@ fn read_under(algorithm: usize, padding: usize, m: usize, slip: &[u8], keys: &[u
 pub fn read(slip: &[u8], keys: &[u8]) -> Slip
     ensures { λ r. ⌜ r ≡ readOf (now (slip .entry)) (now (keys .entry)) ⌝ }
 {
-    let at = fields::field_places(slip);
+    let layout = fields::laid_out(slip);
+    let no = layout.refusal;
+    if no != 0 {
+        return refused(no);
+    }
+    let at = layout.places;
     let seal = at.seal;
     let named = &slip[seal..];
-    read_under(
-        fields::byte_at(named, 3),
-        fields::byte_at(named, 4),
-        fields::byte_at(named, 5),
-        slip,
-        keys,
-    )
+    let agreed = settings::Agreement {
+        algorithm: fields::byte_at(named, 3),
+        padding: fields::byte_at(named, 4),
+        m: fields::byte_at(named, 5),
+    };
+    read_under(agreed, slip, at, keys)
+}
+
+// The lot of a slip that was read already, as that very part of it; the slip's first zero bytes where it does not lie in the slip.
+pub fn lot_in<'a>(slip: &'a [u8], contents: Contents) -> &'a [u8]
+    ensures { λ r. ⌜ seen r ≡ lotPartIn (slip .entry) contents ⌝ }
+{
+    let at = contents.lot_at;
+    let len = contents.lot_len;
+    if slip.len() < at {
+        return &slip[0..0];
+    }
+    if slip.len() - at < len {
+        return &slip[0..0];
+    }
+    let end = at + len;
+    &slip[at..end]
 }
 
 // The lot of an accepted slip as that very part of it; the slip's first zero bytes where it is refused.
 pub fn lot<'a>(slip: &'a [u8], keys: &[u8]) -> &'a [u8]
-    ensures { λ r. ⌜ seen r ≡ partOf (slip .entry) (readOf (now (slip .entry)) (now (keys .entry)) .place) (readOf (now (slip .entry)) (now (keys .entry)) .length) ⌝ }
+    ensures { λ r. ⌜ seen r ≡ lotPart (slip .entry) (readOf (now (slip .entry)) (now (keys .entry)) .contents) ⌝ }
 {
     let read = read(slip, keys);
-    let at = read.place;
-    let end = at + read.length;
-    &slip[at..end]
+    let contents = read.contents;
+    lot_in(slip, contents)
 }

@@ -6,15 +6,17 @@ use mathlib.Core.Path.{_≡_, refl}
 use mathlib.Core.Bool.{true}
 use mathlib.Core.List.{List}
 use Prim.Native.Nat.{ℕ}
-use lib.ListN.{length, take-append-drop}
-use lib.Seq.{take-at, drop-at}
 use Rattle.bits.specs.Choice.{pick, firstOf}
 use Rattle.settings.specs.Answers.{numberOf, reportedCalls}
 use Rattle.session.specs.declared.Phase.{Phase}
 use Rattle.session.specs.declared.Phase.the-variants.{Closed, Edge, Part}
-use Rattle.session.specs.Record.{SessionBits, phaseUnfit, anyOf, countsClosed}
+use Rattle.settings.specs.declared.Agreement.{Agreement}
+use Rattle.session.specs.declared.Session as session
+use Rattle.session.specs.declared.Step as session-step
+use Rattle.session.specs.Record.{phaseUnfit, closedFaults, countsClosed}
 use Rattle.session.specs.Calls.{pieceFaults, pieceOf, finishFaults, finishOf}
-use Rattle.slipseal.specs.Border.{RecordBits, yesOf, toldOf, phaseFrom, phaseNumber, partNumber, inward, outward, handedBack, finishedBack}
+use Rattle.slipseal.specs.declared.Session.{Session}
+use Rattle.slipseal.specs.Border.{yesOf, toldOf, phaseFrom, phaseNumber, partNumber, inward, outward, handedBack, finishedBack}
 
 -- ---- out and in
 
@@ -24,20 +26,9 @@ phase-back Closed = refl
 phase-back Edge = refl
 phase-back (Part n) = refl
 
-pub out-and-in : (s : SessionBits) → length (s .k) ≡ 128 → inward (outward s) ≡ s
+pub out-and-in : (s : session.Session) → inward (outward s) ≡ s
 unfolding inward outward
-out-and-in s h i = record {
-  phase = phase-back (s .phase) i;
-  algorithm = s .algorithm;
-  padding = s .padding;
-  m = s .m;
-  declared = s .declared;
-  total = s .total;
-  k = take-at (s .k) (s .k′) 128 h i;
-  k′ = drop-at (s .k) (s .k′) 128 h i;
-  chain = s .chain;
-  held = s .held;
-}
+out-and-in s = rw (phase-back (s .phase)) refl
 
 -- ---- in and out
 
@@ -59,31 +50,20 @@ part-kept _ _ shut = refl
 part-kept _ _ edge = refl
 part-kept _ _ (part n) = refl
 
-pub in-and-out : (r : RecordBits) → Proper (r .phase) (r .part) → outward (inward r) ≡ r
+pub in-and-out : (r : Session) → Proper (r .phase) (r .part) → outward (inward r) ≡ r
 unfolding inward outward
-in-and-out r h i = record {
-  phase = phase-kept (r .phase) (r .part) h i;
-  part = part-kept (r .phase) (r .part) h i;
-  algorithm = r .algorithm;
-  padding = r .padding;
-  m = r .m;
-  declared = r .declared;
-  total = r .total;
-  keys = take-append-drop 128 (r .keys) i;
-  chain = r .chain;
-  held = r .held;
-}
+in-and-out r h = rw (phase-kept (r .phase) (r .part) h, part-kept (r .phase) (r .part) h) refl
 
 -- ---- any other struct: its phase is read as closed
 
-odd-closed : (r : RecordBits) → phaseFrom (r .phase) (r .part) ≡ Closed → countsClosed (inward r) ≡ true
-unfolding countsClosed anyOf inward phaseUnfit pick
+odd-closed : (r : Session) → phaseFrom (r .phase) (r .part) ≡ Closed → countsClosed (inward r) ≡ true
+unfolding countsClosed closedFaults firstOf inward phaseUnfit pick
 odd-closed r e = rw e refl
 
-pub odd-piece : (r : RecordBits) → phaseFrom (r .phase) (r .part) ≡ Closed → (bytes : List ℕ) (bits : ℕ) → handedBack r (pieceOf (inward r) bytes bits) ≡ (record { number = 11; yes = 0; calls = 0 }, r)
+pub odd-piece : (r : Session) → phaseFrom (r .phase) (r .part) ≡ Closed → (bytes : List ℕ) (bits : ℕ) → handedBack r (pieceOf (inward r) bytes bits) ≡ record { answer = record { number = 11; yes = 0; calls = 0 }; session = r }
 unfolding handedBack pieceOf pieceFaults firstOf pick toldOf numberOf yesOf reportedCalls
 odd-piece r e bytes bits = rw (odd-closed r e) refl
 
-pub odd-finish : (r : RecordBits) → phaseFrom (r .phase) (r .part) ≡ Closed → (room : List ℕ) → finishedBack r (finishOf (inward r) room) ≡ ((record { number = 11; yes = 0; calls = 0 }, r), room)
+pub odd-finish : (r : Session) → phaseFrom (r .phase) (r .part) ≡ Closed → (room : List ℕ) → finishedBack r (finishOf (inward r) room) ≡ (record { answer = record { number = 11; yes = 0; calls = 0 }; session = r }, room)
 unfolding finishedBack handedBack finishOf finishFaults firstOf pick toldOf numberOf yesOf reportedCalls
 odd-finish r e room = rw (odd-closed r e) refl

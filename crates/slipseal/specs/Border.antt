@@ -1,67 +1,52 @@
--- What crosses the border to C: document 01's numbers for each answer, and a session as numbers and arrays.
+-- What crosses the border to C: document 01's numbers for each answer, what a slip says, and a session as numbers and arrays.
 -- Assumes nothing.
-use mathlib.Core.List.{List, _++_}
+use mathlib.Core.List.{List}
 use Prim.Native.Nat.{ℕ}
-use lib.ListN.{take, drop}
 use lib.Dec.{eqb}
 use Rattle.bits.specs.Choice.{pick}
-use Rattle.bits.specs.Str.{Bits, bytesBits}
 use Rattle.settings.specs.Answers.{numberOf, reportedCalls}
-use Rattle.settings.specs.declared.Answer as settings
-use Rattle.settings.specs.declared.Answer.the-variants.{Accepted, Made, Yes, No, Refused}
-use Rattle.session.specs.Record.{SessionBits}
+use Rattle.settings.specs.declared.Outcome as settings
+use Rattle.settings.specs.declared.Outcome.the-variants.{Accepted, Made, Yes, No, Refused}
+use Rattle.settings.specs.declared.Agreement.{Agreement}
+use Rattle.chain.specs.declared.Hold.{Hold}
+use Rattle.session.specs.declared.Session as session
+use Rattle.session.specs.declared.Step as session-step
 use Rattle.session.specs.declared.Phase.{Phase}
 use Rattle.session.specs.declared.Phase.the-variants.{Closed, Edge, Part}
+use Rattle.slip.specs.declared.Slip as slip
 use Rattle.slipseal.specs.declared.Answer.{Answer}
-use Rattle.slipseal.specs.declared.Record.{Record}
-use Rattle.slipseal.specs.declared.OutStep.{OutStep}
+use Rattle.slipseal.specs.declared.Session.{Session}
+use Rattle.slipseal.specs.declared.Step.{Step}
+use Rattle.slipseal.specs.declared.Slip.{Slip}
 
 -- ---- answers
 
 -- 1 for a made tag, a good finish and a checked yes
-unfoldable pub yesOf : settings.Answer → ℕ
+unfoldable pub yesOf : settings.Outcome → ℕ
 yesOf Accepted = 0
 yesOf (Made calls) = 1
 yesOf (Yes calls) = 1
 yesOf (No calls) = 0
 yesOf (Refused number) = 0
 
-unfoldable pub toldOf : settings.Answer → Answer
+unfoldable pub toldOf : settings.Outcome → Answer
 toldOf a = record { number = numberOf a; yes = yesOf a; calls = reportedCalls a }
 
-unfoldable pub toldMake : settings.Answer × List ℕ → Answer × List ℕ
+unfoldable pub toldMake : settings.Outcome × List ℕ → Answer × List ℕ
 toldMake r = (toldOf (r .0), r .1)
 
--- ---- a session's struct with its arrays read as bit strings
-
-pub record RecordBits : Type 0 where
-  pub phase : ℕ
-  pub part : ℕ
-  pub algorithm : ℕ
-  pub padding : ℕ
-  pub m : ℕ
-  pub declared : ℕ
-  pub total : ℕ
-  pub keys : Bits
-  pub chain : Bits
-  pub held : Bits
-
-unfoldable pub recordBits : Record → RecordBits
-recordBits r = record {
-  phase = r .phase;
-  part = r .part;
-  algorithm = r .algorithm;
-  padding = r .padding;
-  m = r .m;
-  declared = r .declared;
-  total = r .total;
-  keys = bytesBits (r .keys);
-  chain = bytesBits (r .chain);
-  held = bytesBits (r .held);
+-- what is read from a slip, in one row
+unfoldable pub toldSlip : slip.Slip → Slip
+toldSlip r = record {
+  number = r .number;
+  year = r .contents .year;
+  month = r .contents .month;
+  day = r .contents .day;
+  amount = r .contents .amount;
+  calls = r .calls;
+  «lot_at» = r .contents .«lot_at»;
+  «lot_len» = r .contents .«lot_len»;
 }
-
-unfoldable pub outStepBits : OutStep → Answer × RecordBits
-outStepBits r = (r .answer, recordBits (r .session))
 
 -- ---- in and out
 
@@ -79,43 +64,36 @@ partNumber Closed = 0
 partNumber Edge = 0
 partNumber (Part n) = n
 
--- K is the first half of the keys, K′ the second
-unfoldable pub inward : RecordBits → SessionBits
+unfoldable pub inward : Session → session.Session
 inward r = record {
   phase = phaseFrom (r .phase) (r .part);
-  algorithm = r .algorithm;
-  padding = r .padding;
-  m = r .m;
+  agreement = r .agreement;
   declared = r .declared;
   total = r .total;
-  k = take 128 (r .keys);
-  k′ = drop 128 (r .keys);
-  chain = r .chain;
-  held = r .held;
+  keys = r .keys;
+  hold = record { value = r .chain; held = r .held };
 }
 
-unfoldable pub outward : SessionBits → RecordBits
+unfoldable pub outward : session.Session → Session
 outward s = record {
   phase = phaseNumber (s .phase);
   part = partNumber (s .phase);
-  algorithm = s .algorithm;
-  padding = s .padding;
-  m = s .m;
+  agreement = s .agreement;
   declared = s .declared;
   total = s .total;
-  keys = s .k ++ s .k′;
-  chain = s .chain;
-  held = s .held;
+  keys = s .keys;
+  chain = s .hold .value;
+  held = s .hold .held;
 }
 
 -- ---- the answer with a session
 
-unfoldable pub handedOut : settings.Answer × SessionBits → Answer × RecordBits
-handedOut step = (toldOf (step .0), outward (step .1))
+unfoldable pub handedOut : session-step.Step → Step
+handedOut step = record { answer = toldOf (step .answer); session = outward (step .session) }
 
 -- in a refusal the struct that came goes back as it came
-unfoldable pub handedBack : RecordBits → settings.Answer × SessionBits → Answer × RecordBits
-handedBack came step = pick (eqb (numberOf (step .0)) 0) (handedOut step) (toldOf (step .0), came)
+unfoldable pub handedBack : Session → session-step.Step → Step
+handedBack came step = pick (eqb (numberOf (step .answer)) 0) (handedOut step) (record { answer = toldOf (step .answer); session = came })
 
-unfoldable pub finishedBack : RecordBits → (settings.Answer × SessionBits) × List ℕ → (Answer × RecordBits) × List ℕ
+unfoldable pub finishedBack : Session → session-step.Step × List ℕ → Step × List ℕ
 finishedBack came r = (handedBack came (r .0), r .1)

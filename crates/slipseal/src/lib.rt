@@ -1,13 +1,10 @@
 // The library for C and for whatever calls C: each function hands its arguments on and turns the answer into numbers. A session
 // crosses as numbers and arrays; any content of it is answered, and a refusal hands back the very struct that came.
 ghost use mathlib.Core.Path.{_≡_};
-ghost use lib.ListN.{take, drop};
-ghost use Rattle.bits.specs.Str.{bytesBits};
 ghost use Rattle.tag.specs.OneCall.{makeOf, checkOf};
-ghost use Rattle.session.specs.Record.{sessionBits};
-ghost use Rattle.session.specs.Calls.{stepBits, startOf, pieceOf, finishOf};
+ghost use Rattle.session.specs.Calls.{startOf, pieceOf, finishOf};
 ghost use Rattle.slip.specs.Slip.{readOf};
-ghost use Rattle.slipseal.specs.Border.{toldOf, toldMake, phaseFrom, phaseNumber, partNumber, recordBits, outStepBits, inward, outward, handedOut, handedBack, finishedBack};
+ghost use Rattle.slipseal.specs.Border.{toldOf, toldMake, toldSlip, phaseFrom, phaseNumber, partNumber, inward, outward, handedOut, handedBack, finishedBack};
 
 // number: 0, or the refusal's. yes: 1 for a made tag, a good finish and a checked yes, else 0.
 #[repr(C)]
@@ -19,12 +16,10 @@ pub struct Answer {
 
 // phase: 0 closed, 1 at a byte edge, 2 after a part byte, whose 1 to 7 bits are told by part.
 #[repr(C)]
-pub struct Record {
+pub struct Session {
     pub phase: usize,
     pub part: usize,
-    pub algorithm: usize,
-    pub padding: usize,
-    pub m: usize,
+    pub agreement: settings::Agreement,
     pub declared: usize,
     pub total: usize,
     pub keys: [u8; 32],
@@ -32,39 +27,52 @@ pub struct Record {
     pub held: [u8; 16],
 }
 
+// number: 0, or the refusal's. The lot is the lot_len bytes of the slip from lot_at on.
 #[repr(C)]
-pub struct OutStep {
+pub struct Slip {
+    pub number: usize,
+    pub year: usize,
+    pub month: usize,
+    pub day: usize,
+    pub amount: usize,
+    pub calls: usize,
+    pub lot_at: usize,
+    pub lot_len: usize,
+}
+
+#[repr(C)]
+pub struct Step {
     pub answer: Answer,
-    pub session: Record,
+    pub session: Session,
 }
 
 // ---- answers
 
-fn told(answer: settings::Answer) -> Answer
+fn told(answer: settings::Outcome) -> Answer
     ensures { λ r. ⌜ r ≡ toldOf answer ⌝ }
 {
     match answer {
-        settings::Answer::Accepted => Answer {
+        settings::Outcome::Accepted => Answer {
             number: 0,
             yes: 0,
             calls: 0,
         },
-        settings::Answer::Made(calls) => Answer {
+        settings::Outcome::Made(calls) => Answer {
             number: 0,
             yes: 1,
             calls,
         },
-        settings::Answer::Yes(calls) => Answer {
+        settings::Outcome::Yes(calls) => Answer {
             number: 0,
             yes: 1,
             calls,
         },
-        settings::Answer::No(calls) => Answer {
+        settings::Outcome::No(calls) => Answer {
             number: 0,
             yes: 0,
             calls,
         },
-        settings::Answer::Refused(number) => Answer {
+        settings::Outcome::Refused(number) => Answer {
             number,
             yes: 0,
             calls: 0,
@@ -74,32 +82,28 @@ fn told(answer: settings::Answer) -> Answer
 
 #[no_mangle]
 pub extern "C" fn slipseal_make(
-    algorithm: usize,
-    padding: usize,
-    m: usize,
+    agreement: settings::Agreement,
     keys: &[u8],
     message: &[u8],
     bits: usize,
     room: &mut [u8],
 ) -> Answer
-    ensures { λ r. ⌜ (r, now (room .exit)) ≡ toldMake (makeOf algorithm padding m (now (keys .entry)) (now (message .entry)) bits (now (room .entry))) ⌝ }
+    ensures { λ r. ⌜ (r, now (room .exit)) ≡ toldMake (makeOf agreement (now (keys .entry)) (now (message .entry)) bits (now (room .entry))) ⌝ }
 {
-    told(tag::make(algorithm, padding, m, keys, message, bits, room))
+    told(tag::make(agreement, keys, message, bits, room))
 }
 
 #[no_mangle]
 pub extern "C" fn slipseal_check(
-    algorithm: usize,
-    padding: usize,
-    m: usize,
+    agreement: settings::Agreement,
     keys: &[u8],
     message: &[u8],
     bits: usize,
     offered: &[u8],
 ) -> Answer
-    ensures { λ r. ⌜ r ≡ toldOf (checkOf algorithm padding m (now (keys .entry)) (now (message .entry)) bits (now (offered .entry))) ⌝ }
+    ensures { λ r. ⌜ r ≡ toldOf (checkOf agreement (now (keys .entry)) (now (message .entry)) bits (now (offered .entry))) ⌝ }
 {
-    told(tag::check(algorithm, padding, m, keys, message, bits, offered))
+    told(tag::check(agreement, keys, message, bits, offered))
 }
 
 // ---- a session in and out
@@ -139,56 +143,38 @@ fn part_number(phase: session::Phase) -> usize
     }
 }
 
-fn first_key(keys: [u8; 32]) -> [u8; 16]
-    ensures { λ r. ⌜ bytesBits r ≡ take 128 (bytesBits keys) ⌝ }
+fn session_from(came: Session) -> session::Session
+    ensures { λ s. ⌜ s ≡ inward came ⌝ }
 {
-    block::front(&keys[..16])
-}
-
-fn second_key(keys: [u8; 32]) -> [u8; 16]
-    ensures { λ r. ⌜ bytesBits r ≡ drop 128 (bytesBits keys) ⌝ }
-{
-    block::front(&keys[16..])
-}
-
-fn session_from(r: Record) -> session::Session
-    ensures { λ s. ⌜ sessionBits s ≡ inward (recordBits r) ⌝ }
-{
-    let phase = phase_from(r.phase, r.part);
-    let keys = r.keys;
-    let k = first_key(keys);
-    let k1 = second_key(keys);
-    let chain = r.chain;
-    let held = r.held;
+    let phase = phase_from(came.phase, came.part);
+    let agreement = came.agreement;
+    let keys = came.keys;
+    let value = came.chain;
+    let held = came.held;
+    let hold = chain::Hold { value, held };
     session::Session {
         phase,
-        algorithm: r.algorithm,
-        padding: r.padding,
-        m: r.m,
-        declared: r.declared,
-        total: r.total,
-        k,
-        k1,
-        chain,
-        held,
+        agreement,
+        declared: came.declared,
+        total: came.total,
+        keys,
+        hold,
     }
 }
 
-fn record_of(s: session::Session) -> Record
-    ensures { λ r. ⌜ recordBits r ≡ outward (sessionBits s) ⌝ }
+fn session_out(s: session::Session) -> Session
+    ensures { λ r. ⌜ r ≡ outward s ⌝ }
 {
     let phase = s.phase;
-    let k = s.k;
-    let k1 = s.k1;
-    let keys = block::pair(k, k1);
-    let chain = s.chain;
-    let held = s.held;
-    Record {
+    let agreement = s.agreement;
+    let keys = s.keys;
+    let hold = s.hold;
+    let chain = hold.value;
+    let held = hold.held;
+    Session {
         phase: phase_number(phase),
         part: part_number(phase),
-        algorithm: s.algorithm,
-        padding: s.padding,
-        m: s.m,
+        agreement,
         declared: s.declared,
         total: s.total,
         keys,
@@ -198,22 +184,22 @@ fn record_of(s: session::Session) -> Record
 }
 
 // The answer with the session handed on.
-fn handed_out(step: session::Step) -> OutStep
-    ensures { λ r. ⌜ outStepBits r ≡ handedOut (stepBits step) ⌝ }
+fn handed_out(step: session::Step) -> Step
+    ensures { λ r. ⌜ r ≡ handedOut step ⌝ }
 {
     let answer = step.answer;
     let next = step.session;
     let told_answer = told(answer);
-    let record = record_of(next);
-    OutStep {
+    let record = session_out(next);
+    Step {
         answer: told_answer,
         session: record,
     }
 }
 
 // The answer with the session handed on; in a refusal with the struct that came.
-fn handed_back(came: Record, step: session::Step) -> OutStep
-    ensures { λ r. ⌜ outStepBits r ≡ handedBack (recordBits came) (stepBits step) ⌝ }
+fn handed_back(came: Session, step: session::Step) -> Step
+    ensures { λ r. ⌜ r ≡ handedBack came step ⌝ }
 {
     let out = handed_out(step);
     let answer = out.answer;
@@ -221,7 +207,7 @@ fn handed_back(came: Record, step: session::Step) -> OutStep
     if number == 0 {
         return out;
     }
-    OutStep {
+    Step {
         answer,
         session: came,
     }
@@ -229,28 +215,26 @@ fn handed_back(came: Record, step: session::Step) -> OutStep
 
 #[no_mangle]
 pub extern "C" fn slipseal_start(
-    algorithm: usize,
-    padding: usize,
-    m: usize,
+    agreement: settings::Agreement,
     keys: &[u8],
     declared: usize,
-) -> OutStep
-    ensures { λ r. ⌜ outStepBits r ≡ handedOut (startOf algorithm padding m (now (keys .entry)) declared) ⌝ }
+) -> Step
+    ensures { λ r. ⌜ r ≡ handedOut (startOf agreement (now (keys .entry)) declared) ⌝ }
 {
-    handed_out(session::start(algorithm, padding, m, keys, declared))
+    handed_out(session::start(agreement, keys, declared))
 }
 
 #[no_mangle]
-pub extern "C" fn slipseal_piece(came: Record, bytes: &[u8], bits: usize) -> OutStep
-    ensures { λ r. ⌜ outStepBits r ≡ handedBack (recordBits came) (pieceOf (inward (recordBits came)) (now (bytes .entry)) bits) ⌝ }
+pub extern "C" fn slipseal_piece(came: Session, bytes: &[u8], bits: usize) -> Step
+    ensures { λ r. ⌜ r ≡ handedBack came (pieceOf (inward came) (now (bytes .entry)) bits) ⌝ }
 {
     let s = session_from(came);
     handed_back(came, s.piece(bytes, bits))
 }
 
 #[no_mangle]
-pub extern "C" fn slipseal_finish(came: Record, room: &mut [u8]) -> OutStep
-    ensures { λ r. ⌜ (outStepBits r, now (room .exit)) ≡ finishedBack (recordBits came) (finishOf (inward (recordBits came)) (now (room .entry))) ⌝ }
+pub extern "C" fn slipseal_finish(came: Session, room: &mut [u8]) -> Step
+    ensures { λ r. ⌜ (r, now (room .exit)) ≡ finishedBack came (finishOf (inward came) (now (room .entry))) ⌝ }
 {
     let s = session_from(came);
     handed_back(came, s.finish(room))
@@ -258,9 +242,25 @@ pub extern "C" fn slipseal_finish(came: Record, room: &mut [u8]) -> OutStep
 
 // ---- a slip
 
-#[no_mangle]
-pub extern "C" fn slipseal_read(slip: &[u8], keys: &[u8]) -> slip::Slip
-    ensures { λ r. ⌜ r ≡ readOf (now (slip .entry)) (now (keys .entry)) ⌝ }
+fn told_slip(read: slip::Slip) -> Slip
+    ensures { λ r. ⌜ r ≡ toldSlip read ⌝ }
 {
-    slip::read(slip, keys)
+    let contents = read.contents;
+    Slip {
+        number: read.number,
+        year: contents.year,
+        month: contents.month,
+        day: contents.day,
+        amount: contents.amount,
+        calls: read.calls,
+        lot_at: contents.lot_at,
+        lot_len: contents.lot_len,
+    }
+}
+
+#[no_mangle]
+pub extern "C" fn slipseal_read(slip: &[u8], keys: &[u8]) -> Slip
+    ensures { λ r. ⌜ r ≡ toldSlip (readOf (now (slip .entry)) (now (keys .entry))) ⌝ }
+{
+    told_slip(slip::read(slip, keys))
 }

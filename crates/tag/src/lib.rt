@@ -2,212 +2,107 @@
 ghost use mathlib.Core.Path.{_≡_};
 ghost use Prim.Native.Nat.{_≤_, _<_};
 ghost use lib.ListN.{length};
-ghost use Rattle.bits.specs.Choice.{firstOf};
 ghost use Rattle.bits.specs.Str.{bytesBits};
 ghost use Rattle.block.specs.Block.{storage, filledBlock};
 ghost use Rattle.mac.specs.Tag.{bytesFor};
-ghost use Rattle.settings.specs.Keys.{keyBits};
-ghost use Rattle.tag.specs.OneCall.{lengthWrong, tooManyBits, tooFewBlocks, roomShort, tagLengthWrong, messageFaults, tagAt, makeOf, checkOf, madeUnder, checkedUnder};
-
-// The bit count divided by 8, rounded up.
-pub fn bytes_for(bits: usize) -> usize
-    ensures { λ r. ⌜ r ≡ bytesFor bits ⌝ }
-{
-    if bits % 8 == 0 {
-        return bits / 8;
-    }
-    bits / 8 + 1
-}
-
-// ---- refusals 7 to 10
-
-pub fn length_wrong(length: usize, bits: usize) -> bool
-    ensures { λ r. ⌜ r ≡ lengthWrong length bits ⌝ }
-{
-    length != bytes_for(bits)
-}
-
-pub fn too_many_bits(bits: usize) -> bool
-    ensures { λ r. ⌜ r ≡ tooManyBits bits ⌝ }
-{
-    settings::Settings::MOST_BITS < bits
-}
-
-pub fn too_few_blocks(algorithm: usize, padding: usize, bits: usize) -> bool
-    ensures { λ r. ⌜ r ≡ tooFewBlocks algorithm padding bits ⌝ }
-{
-    if algorithm == 4 {
-        return mac::block_count(cipher::SM4, padding, bits) < 2;
-    }
-    false
-}
-
-pub fn room_short(m: usize, room: usize) -> bool
-    ensures { λ r. ⌜ r ≡ roomShort m room ⌝ }
-{
-    room < bytes_for(m)
-}
-
-fn tag_length_wrong(m: usize, length: usize) -> bool
-    ensures { λ r. ⌜ r ≡ tagLengthWrong m length ⌝ }
-{
-    length != bytes_for(m)
-}
-
-fn message_refusal(algorithm: usize, padding: usize, length: usize, bits: usize, ten: bool) -> usize
-    ensures { λ r. ⌜ r ≡ firstOf (messageFaults algorithm padding length bits ten) ⌝ }
-{
-    if length_wrong(length, bits) {
-        return 7;
-    }
-    if too_many_bits(bits) {
-        return 8;
-    }
-    if too_few_blocks(algorithm, padding, bits) {
-        return 9;
-    }
-    if ten {
-        return 10;
-    }
-    0
-}
-
-// ---- the tag
+ghost use Rattle.keys.specs.Given.{keyBits};
+ghost use Rattle.tag.specs.OneCall.{tagAt, makeOf, checkOf, makeUnder, checkUnder};
 
 // The tag's m bits, and zeros after them.
-fn tag_block(
-    s: settings::Settings,
-    keys: settings::KeyBytes,
-    message: &[u8],
-    bits: usize,
-) -> [u8; 16]
+fn tag_block(s: settings::Settings, keys: keys::KeyBlocks, message: &[u8], bits: usize) -> [u8; 16]
     requires { ⌜ (bits ≤ 8388608) × (length (now message) ≡ bytesFor bits) ⌝ }
-    ensures { λ r. ⌜ bytesBits r ≡ filledBlock (tagAt (s .algorithm) (s .padding) (s .m) (keyBits keys) (now (message .entry)) bits) ⌝ }
+    ensures { λ r. ⌜ bytesBits r ≡ filledBlock (tagAt s (keyBits keys) (now (message .entry)) bits) ⌝ }
 {
-    let algorithm = s.algorithm;
-    let padding = s.padding;
-    let k = keys.k;
-    let k1 = keys.k1;
-    let k2 = keys.k2;
     let t = cipher::table(cipher::SM4);
-    let rounds = chain::expand(&t, cipher::SM4, algorithm, k, k1, k2);
-    let begun = chain::begin(&t, cipher::SM4, algorithm, padding, rounds, bits as u32);
-    let fresh = chain::Hold {
-        chain: begun,
-        held: [0u8; 16],
-    };
-    let fed = chain::feed(
-        &t,
-        cipher::SM4,
-        algorithm,
-        padding,
+    let rounds = chain::expand(&t, cipher::SM4, s.algorithm, keys);
+    let k = chain::Keyed {
+        cipher: cipher::SM4,
+        settings: s,
         rounds,
-        fresh,
-        0,
-        message,
-        bits,
-    );
-    chain::close(&t, cipher::SM4, algorithm, padding, s.m, rounds, fed, bits)
+    };
+    let begun = chain::begin(&t, k, bits as u32);
+    let fed = chain::feed(&t, k, begun, 0, message, bits);
+    chain::close(&t, k, fed, bits)
 }
 
 // A tag made under sound settings, or refusals 7 to 10.
-fn made(
+fn make_under(
     s: settings::Settings,
-    keys: settings::KeyBytes,
+    keys: keys::KeyBlocks,
     message: &[u8],
     bits: usize,
     room: &mut [u8],
-) -> settings::Answer
+) -> settings::Outcome
     requires { ⌜ (0 < s .m) × (s .m ≤ storage) ⌝ }
-    ensures { λ r. ⌜ (r, now (room .exit)) ≡ madeUnder (s .algorithm) (s .padding) (s .m) (keyBits keys) (now (message .entry)) bits (now (room .entry)) ⌝ }
+    ensures { λ r. ⌜ (r, now (room .exit)) ≡ makeUnder s (keyBits keys) (now (message .entry)) bits (now (room .entry)) ⌝ }
 {
-    let algorithm = s.algorithm;
-    let padding = s.padding;
-    let m = s.m;
-    let no = message_refusal(
-        algorithm,
-        padding,
-        message.len(),
-        bits,
-        room_short(m, room.len()),
-    );
+    let ten = message::room_short(s.m, room.len());
+    let no = message::refusal(s, message.len(), bits, ten);
     if no != 0 {
-        return settings::Answer::Refused(no);
+        return settings::Outcome::Refused(no);
     }
-    let made = tag_block(s, keys, message, bits);
-    block::put(made, bytes_for(m), room);
-    settings::Answer::Made(chain::calls(cipher::SM4, algorithm, padding, bits))
+    let tag = tag_block(s, keys, message, bits);
+    block::put(tag, message::bytes_for(s.m), room);
+    settings::Outcome::Made(chain::calls(cipher::SM4, s, bits))
 }
 
 // Makes the tag of a message's first bits into the first bytes of the room.
 pub fn make(
-    algorithm: usize,
-    padding: usize,
-    m: usize,
+    agreement: settings::Agreement,
     keys: &[u8],
     message: &[u8],
     bits: usize,
     room: &mut [u8],
-) -> settings::Answer
-    ensures { λ r. ⌜ (r, now (room .exit)) ≡ makeOf algorithm padding m (now (keys .entry)) (now (message .entry)) bits (now (room .entry)) ⌝ }
+) -> settings::Outcome
+    ensures { λ r. ⌜ (r, now (room .exit)) ≡ makeOf agreement (now (keys .entry)) (now (message .entry)) bits (now (room .entry)) ⌝ }
 {
-    let unpacked = settings::unpack(keys);
-    let checked = settings::Settings::checked(algorithm, padding, m, keys.len(), unpacked);
+    let unpacked = keys::unpack(keys);
+    let checked = settings::Settings::checked(agreement, keys.len(), unpacked);
     match checked {
-        settings::Checked::Unsound(no) => settings::Answer::Refused(no),
-        settings::Checked::Sound(s) => made(s, unpacked, message, bits, room),
+        settings::Checked::Unsound(no) => settings::Outcome::Refused(no),
+        settings::Checked::Sound(s) => make_under(s, unpacked, message, bits, room),
     }
 }
 
 // A tag checked under sound settings, or refusals 7 to 10.
-fn checked(
+fn check_under(
     s: settings::Settings,
-    keys: settings::KeyBytes,
+    keys: keys::KeyBlocks,
     message: &[u8],
     bits: usize,
-    tag: &[u8],
-) -> settings::Answer
+    offered: &[u8],
+) -> settings::Outcome
     requires { ⌜ (0 < s .m) × (s .m ≤ storage) ⌝ }
-    ensures { λ r. ⌜ r ≡ checkedUnder (s .algorithm) (s .padding) (s .m) (keyBits keys) (now (message .entry)) bits (now (tag .entry)) ⌝ }
+    ensures { λ r. ⌜ r ≡ checkUnder s (keyBits keys) (now (message .entry)) bits (now (offered .entry)) ⌝ }
 {
-    let algorithm = s.algorithm;
-    let padding = s.padding;
-    let m = s.m;
-    let no = message_refusal(
-        algorithm,
-        padding,
-        message.len(),
-        bits,
-        tag_length_wrong(m, tag.len()),
-    );
+    let ten = message::tag_length_wrong(s.m, offered.len());
+    let no = message::refusal(s, message.len(), bits, ten);
     if no != 0 {
-        return settings::Answer::Refused(no);
+        return settings::Outcome::Refused(no);
     }
-    let made = tag_block(s, keys, message, bits);
-    let calls = chain::calls(cipher::SM4, algorithm, padding, bits);
-    let n = bytes_for(m);
-    if block::equal_bytes(tag, &made[..n]) {
-        return settings::Answer::Yes(calls);
+    let tag = tag_block(s, keys, message, bits);
+    let calls = chain::calls(cipher::SM4, s, bits);
+    let n = message::bytes_for(s.m);
+    if block::equal_bytes(offered, &tag[..n]) {
+        return settings::Outcome::Yes(calls);
     }
-    settings::Answer::No(calls)
+    settings::Outcome::No(calls)
 }
 
 // Whether a tag is that of a message's first bits.
 pub fn check(
-    algorithm: usize,
-    padding: usize,
-    m: usize,
+    agreement: settings::Agreement,
     keys: &[u8],
     message: &[u8],
     bits: usize,
-    tag: &[u8],
-) -> settings::Answer
-    ensures { λ r. ⌜ r ≡ checkOf algorithm padding m (now (keys .entry)) (now (message .entry)) bits (now (tag .entry)) ⌝ }
+    offered: &[u8],
+) -> settings::Outcome
+    ensures { λ r. ⌜ r ≡ checkOf agreement (now (keys .entry)) (now (message .entry)) bits (now (offered .entry)) ⌝ }
 {
-    let unpacked = settings::unpack(keys);
-    let checked_settings = settings::Settings::checked(algorithm, padding, m, keys.len(), unpacked);
-    match checked_settings {
-        settings::Checked::Unsound(no) => settings::Answer::Refused(no),
-        settings::Checked::Sound(s) => checked(s, unpacked, message, bits, tag),
+    let unpacked = keys::unpack(keys);
+    let checked = settings::Settings::checked(agreement, keys.len(), unpacked);
+    match checked {
+        settings::Checked::Unsound(no) => settings::Outcome::Refused(no),
+        settings::Checked::Sound(s) => check_under(s, unpacked, message, bits, offered),
     }
 }

@@ -18,8 +18,8 @@
 //    -----
 //    13579   bytes in all
 mod hex;
-mod keys;
 mod slip_file;
+mod typed_keys;
 mod vectors;
 mod words;
 
@@ -60,11 +60,18 @@ fn run_on(name: &[u8]) {
 
 fn check_file(name: &[u8]) {
     let mut room = [0u8; 33];
-    match keys::read(&mut room) {
-        keys::Typed::Bytes(count) => slip_file::check(name, first(&room, count)),
-        keys::Typed::Half(_, _) => print(b"error: the keys have an odd number of hex digits\n"),
-        keys::Typed::Strange => print(b"error: the keys hold a character that is no hex digit\n"),
-        keys::Typed::Unread(reason) => words::print_failure(b"the keys cannot be read", reason),
+    match typed_keys::read(&mut room) {
+        typed_keys::Typed::Bytes(count) => slip_file::check(name, first(&room, count)),
+        typed_keys::Typed::Half(_, _) => print(
+            b"error: the keys have an odd number of hex digits\n",
+        ),
+        typed_keys::Typed::Strange => print(
+            b"error: the keys hold a character that is no hex digit\n",
+        ),
+        typed_keys::Typed::Unread(reason) => words::print_failure(
+            b"the keys cannot be read",
+            reason,
+        ),
     }
 }
 

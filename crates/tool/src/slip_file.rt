@@ -4,7 +4,7 @@ use crate::first;
 use crate::words;
 use words::print;
 
-enum Contents {
+enum FileRead {
     // So many bytes are in the room.
     Bytes(usize),
     // The system's reason.
@@ -24,26 +24,26 @@ pub(crate) fn check(name: &[u8], keys: &[u8]) {
 fn check_open(file: i32, keys: &[u8]) {
     let mut room = [0u8; 76];
     match read(file, &mut room) {
-        Contents::Bytes(count) => print_answer(first(&room, count), keys),
-        Contents::Unreadable(reason) => words::print_failure(b"the file cannot be read", reason),
+        FileRead::Bytes(count) => print_answer(first(&room, count), keys),
+        FileRead::Unreadable(reason) => words::print_failure(b"the file cannot be read", reason),
     }
 }
 
 // Reads until the room is full or the file ends; the system may hand over less at a time than is asked.
-fn read(file: i32, room: &mut [u8]) -> Contents {
+fn read(file: i32, room: &mut [u8]) -> FileRead {
     let mut done = 0;
     while done < room.len() {
         let got = libc::read(file, &mut room[done..]);
         if got < 0 {
-            return Contents::Unreadable(os::errno());
+            return FileRead::Unreadable(os::errno());
         }
         let more = io::count(got, &room[done..]);
         if more == 0 {
-            return Contents::Bytes(done);
+            return FileRead::Bytes(done);
         }
         done += more;
     }
-    Contents::Bytes(done)
+    FileRead::Bytes(done)
 }
 
 fn print_answer(bytes: &[u8], keys: &[u8]) {
@@ -52,21 +52,22 @@ fn print_answer(bytes: &[u8], keys: &[u8]) {
         words::print_refusal(answer.number);
         return;
     }
-    print_accepted(answer, slip::lot(bytes, keys));
+    let contents = answer.contents;
+    print_accepted(contents, slip::lot_in(bytes, contents), answer.calls);
 }
 
-fn print_accepted(answer: slip::Slip, lot: &[u8]) {
+fn print_accepted(contents: slip::Contents, lot: &[u8], calls: usize) {
     print(b"accepted\nexpiry: ");
-    words::print_number(answer.year);
+    words::print_number(contents.year);
     print(b"-");
-    words::print_two_digits(answer.month);
+    words::print_two_digits(contents.month);
     print(b"-");
-    words::print_two_digits(answer.day);
+    words::print_two_digits(contents.day);
     print(b"\nlot: ");
     print(lot);
     print(b"\namount: ");
-    words::print_number(answer.amount);
+    words::print_number(contents.amount);
     print(b" microlitres\ncipher calls: ");
-    words::print_number(answer.calls);
+    words::print_number(calls);
     print(b"\n");
 }

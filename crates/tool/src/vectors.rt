@@ -99,7 +99,7 @@ fn run_row(row: &[u8]) -> bool {
         return run_under(row, &keys);
     }
     let keys = KEYS;
-    if settings::two_keys(algorithm) {
+    if keys::bytes_of(algorithm) == 32 {
         return run_under(row, &keys);
     }
     run_under(row, &keys[0..16])
@@ -115,20 +115,24 @@ fn run_under(row: &[u8], keys: &[u8]) -> bool {
 
 fn run_on(row: &[u8], keys: &[u8], text: &[u8], bits: usize) -> bool {
     let algorithm = value(row, 0);
-    let padding = value(row, 2);
     let m = tag_bits(algorithm);
+    let agreed = settings::Agreement {
+        algorithm,
+        padding: value(row, 2),
+        m,
+    };
     let expected = expected_tag(row);
     let mut made = [0u8; 8];
-    let answer = tag::make(algorithm, padding, m, keys, text, bits, &mut made);
-    let checked = tag::check(algorithm, padding, m, keys, text, bits, &expected);
+    let answer = tag::make(agreed, keys, text, bits, &mut made);
+    let checked = tag::check(agreed, keys, text, bits, &expected);
     let right = is_right(answer, checked, check::same(&made, &expected));
     print_row(row, m, &made, right);
     right
 }
 
-fn is_right(made: settings::Answer, checked: settings::Answer, same: bool) -> bool {
-    if let settings::Answer::Made(_) = made {
-        if let settings::Answer::Yes(_) = checked {
+fn is_right(made: settings::Outcome, checked: settings::Outcome, same: bool) -> bool {
+    if let settings::Outcome::Made(_) = made {
+        if let settings::Outcome::Yes(_) = checked {
             return same;
         }
     }

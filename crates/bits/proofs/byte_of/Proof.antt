@@ -11,9 +11,6 @@ use borrow.Author.Needs.{needs}
 use Rattle.bits.proofs.byte_of.Statement.{statement}
 use Rattle.bits.proofs.byte_of.Tie as tie
 
-shr-result : tie.Need-shr-result
-shr-result c = search needs
-
 cast-result : tie.Need-cast-result
 cast-result c = record { fits = mask-lt (c .args .x / 2 ^ c .args .s) 8 }
 
@@ -23,4 +20,4 @@ returns c =
     part-mask 32 8 (c .args .s) (c .args .x) (omega arith) ∙ ap (λ (n : ℕ). take 8 (drop n (bitsN 32 (c .args .x)))) e
 
 pub byte-of-spec : {M : Type 1} → statement M
-byte-of-spec = tie.close (tie.spec shr-result cast-result returns)
+byte-of-spec = tie.close (tie.spec (λ c. search needs) cast-result returns)

@@ -16,15 +16,6 @@ use Rattle.bits.proofs.funnel.Tie as tie
 returns : tie.Need-returns
 returns c = sym (ap₂ (λ (u v : Bits). u ++ v) (drop-of-length-le (bitsN 8 (c .before .args .x)) {i = c .before .args .s} (omega (arith, length-bitsN 8 (c .before .args .x)))) (take-all (c .before .args .s) (bitsN 8 (c .before .args .y)) (omega (arith, length-bitsN 8 (c .before .args .y)))))
 
-word-requires : tie.Need-word-requires
-word-requires c κs = search needs
-
-sub-byte-of : tie.Need-sub-byte-of
-sub-byte-of c = search needs
-
-byte-of-requires : tie.Need-byte-of-requires
-byte-of-requires c κs = search needs
-
 returns-2 : tie.Need-returns-2
 returns-2 c =
     let a = c .before .before .before .args in
@@ -34,4 +25,4 @@ returns-2 c =
     ∙ funnel-bytes (a .x) (a .y) (a .s) (0 ∷ 0 ∷ []) (omega arith)
 
 pub funnel-spec : {M : Type 1} → statement M
-funnel-spec = tie.close (tie.spec returns word-requires sub-byte-of byte-of-requires returns-2)
+funnel-spec = tie.close (tie.spec returns (λ c κs. search needs) (λ c. search needs) (λ c κs. search needs) returns-2)

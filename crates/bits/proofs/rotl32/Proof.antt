@@ -13,17 +13,8 @@ use Rattle.bits.proofs.rotl32.Tie as tie
 returns : tie.Need-returns
 returns c = sym (ap (λ (k : ℕ). rotl k (bitsN 32 (c .before .args .x))) (c .if1 .taken) ∙ rotl-zero (bitsN 32 (c .before .args .x)))
 
-shl-result : tie.Need-shl-result
-shl-result c = search needs
-
-sub-result : tie.Need-sub-result
-sub-result c = search needs
-
-shr-result : tie.Need-shr-result
-shr-result c = search needs
-
 returns-2 : tie.Need-returns-2
 returns-2 c = rotl-shifts 32 (c .before .args .r % 32) (c .before .args .x) (omega arith) (c .before .fits .x .fits)
 
 pub rotl32-spec : {M : Type 1} → statement M
-rotl32-spec = tie.close (tie.spec returns shl-result sub-result shr-result returns-2)
+rotl32-spec = tie.close (tie.spec returns (λ c. search needs) (λ c. search needs) (λ c. search needs) returns-2)

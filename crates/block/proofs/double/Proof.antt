@@ -9,27 +9,12 @@ use borrow.Author.Needs.{needs}
 use Rattle.block.proofs.double.Statement.{statement}
 use Rattle.block.proofs.double.Tie as tie
 
-leftmost-requires : tie.Need-leftmost-requires
-leftmost-requires c κs = search needs
-
-window-requires : tie.Need-window-requires
-window-requires c κs = search needs
-
-array-read-if1 : tie.Need-array-read-if1
-array-read-if1 c = search needs
-
 returns : tie.Need-returns
 unfolding blank
 returns c =
     let start = c .before .before .before in
     let a = start .args in
     double-low (a .t1) (a .n) (search needs) (start .pre .1) (start .pre .0) (a .p) _ _ (c .before .before .leftmost .ensures) (c .before .window .ensures) (c .if1 .taken)
-
-number-requires : tie.Need-number-requires
-number-requires c κs = search needs
-
-xor-requires : tie.Need-xor-requires
-xor-requires c κs = search needs
 
 returns-2 : tie.Need-returns-2
 unfolding blank
@@ -43,11 +28,5 @@ returns-2 c =
 pub double-spec : {M : Type 1} → statement M
 double-spec =
     tie.close
-    (tie.spec
-    leftmost-requires
-    window-requires
-    array-read-if1
-    returns
-    number-requires
-    xor-requires
-    returns-2)
+    (tie.spec (λ c κs. search needs) (λ c κs. search needs) (λ c. search needs) returns (λ c κs. search needs)
+    (λ c κs. search needs) returns-2)

@@ -8,17 +8,11 @@ use borrow.Author.Needs.{needs}
 use Rattle.block.proofs.leftmost_of.Statement.{statement}
 use Rattle.block.proofs.leftmost_of.Tie as tie
 
-leftmost-requires : tie.Need-leftmost-requires
-leftmost-requires c κs = search needs
-
 returns : tie.Need-returns
 unfolding leftmost
 returns c =
     let a = c .before .before .args in
     c .leftmost .ensures ∙ ap (filled 128) (least-first (bytesBits (a .b)) (a .n) (a .m) (omega arith))
-
-leftmost-requires-2 : tie.Need-leftmost-requires-2
-leftmost-requires-2 c κs = search needs
 
 returns-2 : tie.Need-returns-2
 unfolding leftmost
@@ -27,4 +21,4 @@ returns-2 c =
     c .leftmost2 .ensures ∙ ap (filled 128) (least-second (bytesBits (a .b)) (a .n) (a .m) (omega arith))
 
 pub leftmost-of-spec : {M : Type 1} → statement M
-leftmost-of-spec = tie.close (tie.spec leftmost-requires returns leftmost-requires-2 returns-2)
+leftmost-of-spec = tie.close (tie.spec (λ c κs. search needs) returns (λ c κs. search needs) returns-2)

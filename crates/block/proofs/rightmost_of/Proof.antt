@@ -12,9 +12,6 @@ use borrow.Author.Needs.{needs}
 use Rattle.block.proofs.rightmost_of.Statement.{statement}
 use Rattle.block.proofs.rightmost_of.Tie as tie
 
-leftmost-requires : tie.Need-leftmost-requires
-leftmost-requires c κs = search needs
-
 returns : tie.Need-returns
 unfolding leftmost
 returns c =
@@ -22,15 +19,6 @@ returns c =
     let a = start .args in
     let l : length (a .b) ≡ 16 = search needs in
     c .leftmost .ensures ∙ ap (filled 128) (rightmost-all (bytesBits (a .b)) (a .n) (omega (arith, length-bytesBits (a .b))) (start .pre) (a .m) (omega arith))
-
-leftmost-requires-2 : tie.Need-leftmost-requires-2
-leftmost-requires-2 c κs = search needs
-
-sub-window : tie.Need-sub-window
-sub-window c = search needs
-
-window-requires : tie.Need-window-requires
-window-requires c κs = search needs
 
 returns-2 : tie.Need-returns-2
 unfolding blank
@@ -43,4 +31,4 @@ returns-2 c =
 pub rightmost-of-spec : {M : Type 1} → statement M
 rightmost-of-spec =
     tie.close
-    (tie.spec leftmost-requires returns leftmost-requires-2 sub-window window-requires returns-2)
+    (tie.spec (λ c κs. search needs) returns (λ c κs. search needs) (λ c. search needs) (λ c κs. search needs) returns-2)

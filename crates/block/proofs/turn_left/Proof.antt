@@ -10,15 +10,6 @@ use borrow.Author.Needs.{needs}
 use Rattle.block.proofs.turn_left.Statement.{statement}
 use Rattle.block.proofs.turn_left.Tie as tie
 
-join-requires : tie.Need-join-requires
-join-requires c κs = search needs
-
-window-requires : tie.Need-window-requires
-window-requires c κs = search needs
-
-leftmost-requires : tie.Need-leftmost-requires
-leftmost-requires c κs = search needs
-
 returns : tie.Need-returns
 unfolding leftmost
 returns c =
@@ -29,5 +20,4 @@ returns c =
     ∙ ap (filled 128) (turn-left-is (bytesBits (a .b)) (a .n) (omega (arith, length-bytesBits (a .b))) (start .pre .1) (start .pre .0) _ _ (c .before .before .join .ensures) (c .before .window .ensures))
 
 pub turn-left-spec : {M : Type 1} → statement M
-turn-left-spec =
-    tie.close (tie.spec join-requires window-requires leftmost-requires returns)
+turn-left-spec = tie.close (tie.spec (λ c κs. search needs) (λ c κs. search needs) (λ c κs. search needs) returns)

@@ -10,15 +10,6 @@ use borrow.Author.Needs.{needs}
 use Rattle.block.proofs.turn_right.Statement.{statement}
 use Rattle.block.proofs.turn_right.Tie as tie
 
-window-requires : tie.Need-window-requires
-window-requires c κs = search needs
-
-window-requires-2 : tie.Need-window-requires-2
-window-requires-2 c κs = search needs
-
-leftmost-requires : tie.Need-leftmost-requires
-leftmost-requires c κs = search needs
-
 returns : tie.Need-returns
 unfolding leftmost
 returns c =
@@ -29,5 +20,4 @@ returns c =
     ∙ ap (filled 128) (turn-right-is (bytesBits (a .b)) (a .n) (omega (arith, length-bytesBits (a .b))) (start .pre .1) (start .pre .0) _ _ (c .before .before .window .ensures) (c .before .window2 .ensures))
 
 pub turn-right-spec : {M : Type 1} → statement M
-turn-right-spec =
-    tie.close (tie.spec window-requires window-requires-2 leftmost-requires returns)
+turn-right-spec = tie.close (tie.spec (λ c κs. search needs) (λ c κs. search needs) (λ c κs. search needs) returns)

@@ -9,7 +9,6 @@ use lib.ListN.{length, take, length-drop}
 use lib.Seq.{length-take-le}
 use borrow.Author.Needs.{needs}
 use Rattle.bits.specs.Str.{Bits, bytesBits, words}
-use Rattle.cipher.specs.Cipher.{Cipher}
 use Rattle.cipher.specs.Ciphers.{cipherAt, encAt, wordsBits}
 use Rattle.cipher.proofs.Laws.{width-at, first-load, first-absorb, first-store}
 use Rattle.chain.specs.Chain.{chained}
@@ -18,13 +17,13 @@ use Rattle.chain.proofs.through.Statement.{statement}
 use Rattle.chain.proofs.through.Tie as tie
 
 abbrev Inv-loop : tie.InvT-loop
-Inv-loop t cipher k bytes blocks w size h₀ rest₀ left₀ h rest left =
+Inv-loop t cipher rk bytes blocks w size h₀ rest₀ left₀ h rest left =
     let n = cipherAt cipher .n in
-    let f = encAt cipher (words k) in
+    let f = encAt cipher (words rk) in
     (chained n f left (take n (wordsBits h)) (bytesBits rest) ≡ chained n f blocks (take n (wordsBits h₀)) (bytesBits bytes)) × (left * n ≤ 8 * length rest) × (length h ≡ 4)
 
 abbrev μ-loop : tie.MeasureT-loop
-μ-loop t cipher k bytes blocks w size h₀ rest₀ left₀ h rest left = left
+μ-loop t cipher rk bytes blocks w size h₀ rest₀ left₀ h rest left = left
 
 returns : tie.Need-returns Inv-loop μ-loop
 unfolding chained
@@ -32,16 +31,7 @@ returns c =
     let a = c .before .before .args in
     let n = cipherAt (a .cipher) .n in
     let none : a .blocks ≡ 0 = search needs in
-    sym (ap (λ (q : ℕ). chained n (encAt (a .cipher) (words (a .k))) q (take n (bytesBits (a .start))) (bytesBits (a .bytes .now))) none)
-
-wide-requires : tie.Need-wide-requires Inv-loop μ-loop
-wide-requires c κs = search needs
-
-width-requires : tie.Need-width-requires Inv-loop μ-loop
-width-requires c κs = search needs
-
-load-requires : tie.Need-load-requires Inv-loop μ-loop
-load-requires c κs = search needs
+    sym (ap (λ (q : ℕ). chained n (encAt (a .cipher) (words (a .rk))) q (take n (bytesBits (a .start))) (bytesBits (a .bytes .now))) none)
 
 loop-holds : tie.Need-loop-holds Inv-loop μ-loop
 loop-holds c = (refl, search needs, search needs)
@@ -108,14 +98,11 @@ loop-again c =
     let others = one-left (l .left) n (8 * length (l .rest .now)) (omega arith) (l .inv .1) .1 in
     let part = length-take-le (width .result / 8) (l .rest .now) fits in
     let t = from-is (width .result / 8) (l .rest .now) in
-    let e = first-absorb (a .cipher) (l .h) (l .inv .2) (words (a .k)) (take (width .result / 8) (l .rest .now)) _ (omega (arith, part, size)) (c .before .absorb .ensures) in (
-      rw (t, e) (chained-turn n (encAt (a .cipher) (words (a .k))) (l .left) (width .result / 8) (take n (wordsBits (l .h))) (l .rest .now) size (omega arith) ∙ l .inv .0),
+    let e = first-absorb (a .cipher) (l .h) (l .inv .2) (words (a .rk)) (take (width .result / 8) (l .rest .now)) _ (omega (arith, part, size)) (c .before .absorb .ensures) in (
+      rw (t, e) (chained-turn n (encAt (a .cipher) (words (a .rk))) (l .left) (width .result / 8) (take n (wordsBits (l .h))) (l .rest .now) size (omega arith) ∙ l .inv .0),
       rw t (simp length-drop (omega (arith, size, fits, others))),
       search needs,
     )
-
-store-requires : tie.Need-store-requires Inv-loop μ-loop
-store-requires c κs = search needs
 
 returns-2 : tie.Need-returns-2 Inv-loop μ-loop
 unfolding chained
@@ -126,26 +113,11 @@ returns-2 c =
     let z : at .loop .left ≡ 0 = omega arith in
     let sixteen : length (a .start) ≡ 16 = search needs in
     first-store (a .cipher) (at .loop .h) (at .loop .inv .2) _ (c .store .ensures) ∙ rw z at (at .loop .inv .0)
-    ∙ ap (λ (h : Bits). chained n (encAt (a .cipher) (words (a .k))) (a .blocks) h (bytesBits (a .bytes .now))) (first-load (a .cipher) (a .start) _ sixteen (at .before .load .ensures))
+    ∙ ap (λ (h : Bits). chained n (encAt (a .cipher) (words (a .rk))) (a .blocks) h (bytesBits (a .bytes .now))) (first-load (a .cipher) (a .start) _ sixteen (at .before .load .ensures))
 
 pub through-spec : {M : Type 1} → statement M
 through-spec =
     tie.close
-    (tie.spec
-    Inv-loop
-    μ-loop
-    returns
-    wide-requires
-    width-requires
-    load-requires
-    loop-holds
-    slice-aggregate-absorb
-    absorb-requires
-    sub-rest
-    part-rest-start
-    part-rest-end
-    sub-left
-    loop-less
-    loop-again
-    store-requires
-    returns-2)
+    (tie.spec Inv-loop μ-loop returns (λ c κs. search needs) (λ c κs. search needs) (λ c κs. search needs) loop-holds
+    slice-aggregate-absorb absorb-requires sub-rest part-rest-start part-rest-end sub-left loop-less loop-again
+    (λ c κs. search needs) returns-2)

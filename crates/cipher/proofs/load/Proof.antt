@@ -13,12 +13,6 @@ use borrow.Author.Needs.{needs}
 use Rattle.cipher.proofs.load.Statement.{statement}
 use Rattle.cipher.proofs.load.Tie as tie
 
-slice-aggregate-load : tie.Need-slice-aggregate-load
-slice-aggregate-load c = search needs
-
-load-requires : tie.Need-load-requires
-load-requires c κs = search needs
-
 returns : tie.Need-returns
 unfolding cipherAt
 returns c =
@@ -29,4 +23,4 @@ returns c =
     whole-block (λ (w : Bits). w) (bytesBits b) _ long long (sym (flat-words _ four) ∙ flat-loaded _ b sixteen (c .load .ensures))
 
 pub load-spec : {M : Type 1} → statement M
-load-spec = tie.close (tie.spec slice-aggregate-load load-requires returns)
+load-spec = tie.close (tie.spec (λ c. search needs) (λ c κs. search needs) returns)

@@ -10,9 +10,6 @@ use borrow.Author.Needs.{needs}
 use Rattle.cipher.proofs.store.Statement.{statement}
 use Rattle.cipher.proofs.store.Tie as tie
 
-store-requires : tie.Need-store-requires
-store-requires c κs = search needs
-
 returns : tie.Need-returns
 unfolding cipherAt
 returns c =
@@ -22,4 +19,4 @@ returns c =
     whole-block (λ (w : Bits). w) (wordsBits h) _ long long (c .store .ensures ∙ flat-words h four)
 
 pub store-spec : {M : Type 1} → statement M
-store-spec = tie.close (tie.spec store-requires returns)
+store-spec = tie.close (tie.spec (λ c κs. search needs) returns)

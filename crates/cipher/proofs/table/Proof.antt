@@ -5,12 +5,9 @@ use borrow.Author.Needs.{needs}
 use Rattle.cipher.proofs.table.Statement.{statement}
 use Rattle.cipher.proofs.table.Tie as tie
 
-table-requires : tie.Need-table-requires
-table-requires c κs = search needs
-
 returns : tie.Need-returns
 unfolding tableAt
 returns c = c .table .ensures
 
 pub table-spec : {M : Type 1} → statement M
-table-spec = tie.close (tie.spec table-requires returns)
+table-spec = tie.close (tie.spec (λ c κs. search needs) returns)

@@ -6,7 +6,7 @@ use native.Mathlib.Omega.{arith}
 use Prim.Native.Nat.{_+_, _-_, _≤_}
 use lib.ListN.{length, drop, getD, drop-of-length-le}
 use Rattle.fields.specs.Field.{outside, anyOutside}
-use Rattle.fields.proofs.Heads.{anyOutside-at}
+use Rattle.fields.proofs.Formed.{anyOutside-at}
 use borrow.Author.Needs.{needs}
 use Rattle.fields.proofs.any_outside.Statement.{statement}
 use Rattle.fields.proofs.any_outside.Tie as tie
@@ -19,12 +19,6 @@ abbrev μ-loop : tie.MeasureT-loop
 
 loop-holds : tie.Need-loop-holds Inv-loop μ-loop
 loop-holds c = (refl, omega arith)
-
-byte-at-requires : tie.Need-byte-at-requires Inv-loop μ-loop
-byte-at-requires c κs = search needs
-
-outside-requires : tie.Need-outside-requires Inv-loop μ-loop
-outside-requires c κs = search needs
 
 returns : tie.Need-returns Inv-loop μ-loop
 returns c =
@@ -53,14 +47,5 @@ returns-2 c = rw (drop-of-length-le (c .before .before .before .args .s .now) {i
 pub any-outside-spec : {M : Type 1} → statement M
 any-outside-spec =
     tie.close
-    (tie.spec
-    Inv-loop
-    μ-loop
-    loop-holds
-    byte-at-requires
-    outside-requires
-    returns
-    add-i
-    loop-less
-    loop-again
+    (tie.spec Inv-loop μ-loop loop-holds (λ c κs. search needs) (λ c κs. search needs) returns add-i loop-less loop-again
     returns-2)

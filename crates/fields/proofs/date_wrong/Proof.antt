@@ -4,20 +4,14 @@ use mathlib.Core.Path.{refl, sym, ap, _∙_}
 use Prim.Native.Nat.{ℕ}
 use Rattle.fields.specs.Field.{outside}
 use Rattle.fields.specs.Date.{dateWrong}
-use Rattle.fields.proofs.Heads.{within}
+use Rattle.fields.proofs.Formed.{within}
 use borrow.Author.Needs.{needs}
 use Rattle.fields.proofs.date_wrong.Statement.{statement}
 use Rattle.fields.proofs.date_wrong.Tie as tie
 
-outside-requires : tie.Need-outside-requires
-outside-requires c κs = search needs
-
 returns : tie.Need-returns
 unfolding dateWrong
 returns c = rw (sym (c .before .outside .ensures) ∙ c .if1 .taken) refl
-
-outside-requires-2 : tie.Need-outside-requires-2
-outside-requires-2 c κs = search needs
 
 returns-2 : tie.Need-returns-2
 unfolding dateWrong
@@ -26,12 +20,6 @@ returns-2 c = rw (sym (c .before .before .before .outside .ensures) ∙ c .befor
 days-in-requires : tie.Need-days-in-requires
 days-in-requires c κs = (within 1 12 (c .before .before .before .before .args .month) (sym (c .before .outside2 .ensures) ∙ c .if2 .left) .low, within 1 12 (c .before .before .before .before .args .month) (sym (c .before .outside2 .ensures) ∙ c .if2 .left) .high)
 
-cast-outside : tie.Need-cast-outside
-cast-outside c = search needs
-
-outside-requires-3 : tie.Need-outside-requires-3
-outside-requires-3 c κs = search needs
-
 returns-3 : tie.Need-returns-3
 unfolding dateWrong
 returns-3 c = rw (sym (c .before .before .before .before .before .outside .ensures) ∙ c .before .before .before .before .if1 .left, sym (c .before .before .before .outside2 .ensures) ∙ c .before .before .if2 .left) (c .outside3 .ensures ∙ ap (λ (n : ℕ). outside 1 n (c .before .before .before .before .before .before .args .day)) (c .before .days-in .ensures))
@@ -39,12 +27,5 @@ returns-3 c = rw (sym (c .before .before .before .before .before .outside .ensur
 pub date-wrong-spec : {M : Type 1} → statement M
 date-wrong-spec =
     tie.close
-    (tie.spec
-    outside-requires
-    returns
-    outside-requires-2
-    returns-2
-    days-in-requires
-    cast-outside
-    outside-requires-3
-    returns-3)
+    (tie.spec (λ c κs. search needs) returns (λ c κs. search needs) returns-2 days-in-requires (λ c. search needs)
+    (λ c κs. search needs) returns-3)

@@ -5,12 +5,9 @@ use borrow.Author.Needs.{needs}
 use Rattle.fields.proofs.day.Statement.{statement}
 use Rattle.fields.proofs.day.Tie as tie
 
-two-digits-requires : tie.Need-two-digits-requires
-two-digits-requires c κs = search needs
-
 returns : tie.Need-returns
 unfolding dayOf
 returns c = c .two-digits .ensures .0
 
 pub day-spec : {M : Type 1} → statement M
-day-spec = tie.close (tie.spec two-digits-requires returns)
+day-spec = tie.close (tie.spec (λ c κs. search needs) returns)

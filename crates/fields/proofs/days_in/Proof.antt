@@ -10,21 +10,15 @@ use borrow.Author.Needs.{needs}
 use Rattle.fields.proofs.days_in.Statement.{statement}
 use Rattle.fields.proofs.days_in.Tie as tie
 
-sub-at : tie.Need-sub-at
-sub-at c = search needs
-
 mul-result : tie.Need-mul-result
 mul-result c = ⊎-elim (λ w. omega arith) (λ w. omega arith) (c .before .if1 .came)
 
 index-1-result : tie.Need-index-1-result
 index-1-result c = ⊎-elim (λ w. omega arith) (λ w. omega arith) (c .before .if1 .came)
 
-index-2-result : tie.Need-index-2-result
-index-2-result c = search needs
-
 returns : tie.Need-returns
 unfolding daysIn days leap pick
 returns c = ⊎-elim (λ w. rw (w .1, eq-eqb _ _ (w .0 .taken)) refl) (λ w. rw (w .1, ne-eqb _ _ (w .0 .left)) refl) (c .before .before .if1 .came)
 
 pub days-in-spec : {M : Type 1} → statement M
-days-in-spec = tie.close (tie.spec sub-at mul-result index-1-result index-2-result returns)
+days-in-spec = tie.close (tie.spec (λ c. search needs) mul-result index-1-result (λ c. search needs) returns)

@@ -6,9 +6,6 @@ use borrow.Author.Needs.{needs}
 use Rattle.fields.proofs.digit.Statement.{statement}
 use Rattle.fields.proofs.digit.Tie as tie
 
-byte-at-requires : tie.Need-byte-at-requires
-byte-at-requires c κs = search needs
-
 returns : tie.Need-returns
 unfolding digitAt
 returns c = (omega (arith, c .before .byte-at .ensures .0), omega arith)
@@ -18,4 +15,4 @@ unfolding digitAt
 returns-2 c = (omega (arith, c .before .byte-at .ensures .0), omega (arith, c .before .byte-at .ensures .1))
 
 pub digit-spec : {M : Type 1} → statement M
-digit-spec = tie.close (tie.spec byte-at-requires returns returns-2)
+digit-spec = tie.close (tie.spec (λ c κs. search needs) returns returns-2)

@@ -10,19 +10,13 @@ use borrow.Author.Needs.{needs}
 use Rattle.fields.proofs.end_of.Statement.{statement}
 use Rattle.fields.proofs.end_of.Tie as tie
 
-pair-requires : tie.Need-pair-requires
-pair-requires c κs = search needs
-
-add-end : tie.Need-add-end
-add-end c = search needs
-
 returns : tie.Need-returns
 unfolding endOf lengthOf
-returns c = (hit _ _ _ _ (lt-ltb _ _ (rw (c .before .pair .ensures .0) at (c .if1 .taken))) refl, omega arith)
+returns c = (hit _ _ _ _ (lt-ltb _ _ (rw (c .before .two-bytes .ensures .0) at (c .if1 .taken))) refl, omega arith)
 
 returns-2 : tie.Need-returns-2
 unfolding endOf lengthOf
-returns-2 c = (miss _ _ _ _ (le-ltb _ _ (rw (c .before .pair .ensures .0) at (c .if1 .left))) (ap (λ (n : ℕ). 3 + n) (c .before .pair .ensures .0)), c .if1 .left)
+returns-2 c = (miss _ _ _ _ (le-ltb _ _ (rw (c .before .two-bytes .ensures .0) at (c .if1 .left))) (ap (λ (n : ℕ). 3 + n) (c .before .two-bytes .ensures .0)), c .if1 .left)
 
 pub end-of-spec : {M : Type 1} → statement M
-end-of-spec = tie.close (tie.spec pair-requires add-end returns returns-2)
+end-of-spec = tie.close (tie.spec (λ c κs. search needs) (λ c. search needs) returns returns-2)

@@ -1,129 +1,103 @@
 -- `layout_refusal` meets its contract: the four fields in their order; a part of the slip is the field that the definition names (`part-from`).
 -- Assumes nothing.
 use mathlib.Core.Path.{_≡_, ap, _∙_}
-use mathlib.Core.List.{List}
+use mathlib.Core.List.{List, _++_}
 use Prim.Native.Nat.{ℕ, _≤_}
 use lib.ListN.{length}
 use Rattle.bits.specs.Choice.{firstOf}
 use Rattle.fields.specs.Layout.{placesOf, lotAt, amountAt, sealAt, lotField, amountField, sealField, expiryFaults, lotFaults, amountFaults, sealFaults, layoutFaults}
 use Rattle.fields.specs.declared.Places.{Places}
-use Rattle.fields.proofs.Heads.{head-first, rest-first}
+use Rattle.fields.proofs.Formed.{head-first, rest-first}
 use Rattle.fields.proofs.Inside.{lot-there, amount-there, seal-there, part-from}
 use Rattle.fields.proofs.Laid.{expiry-numbered, lot-numbered, amount-numbered}
 use borrow.Author.Needs.{needs}
 use Rattle.fields.proofs.layout_refusal.Statement.{statement}
 use Rattle.fields.proofs.layout_refusal.Tie as tie
 
-field-places-requires : tie.Need-field-places-requires
-field-places-requires c κs = search needs
-
-expiry-refusal-requires : tie.Need-expiry-refusal-requires
-expiry-refusal-requires c κs = search needs
-
--- field lot: it stands inside, and what is found in it
-lot-in : (c : tie.After-field-places) → c .field-places .result .lot ≤ length (c .before .before .args .slip .now)
-unfolding placesOf
-lot-in c = rw (c .field-places .ensures) (lot-there (c .before .before .args .slip .now))
-
-lot-is : (c : tie.After-lot-refusal) → c .lot-refusal .result ≡ firstOf (lotFaults (lotField (c .before .before .before .before .before .before .args .slip .now)))
-unfolding lotField placesOf
-lot-is c =
-    let s = c .before .before .before .before .before .before .args .slip .now in
-    c .lot-refusal .ensures ∙ ap (λ (f : List ℕ). firstOf (lotFaults f)) (part-from s _ (lotAt s) (ap (λ (p : Places). p .lot) (c .before .before .before .before .field-places .ensures)))
-
--- field amount: it stands inside, and what is found in it
-amount-in : (c : tie.After-field-places) → c .field-places .result .amount ≤ length (c .before .before .args .slip .now)
-unfolding placesOf
-amount-in c = rw (c .field-places .ensures) (amount-there (c .before .before .args .slip .now))
-
-amount-is : (c : tie.After-amount-refusal) → c .amount-refusal .result ≡ firstOf (amountFaults (amountField (c .before .before .before .before .before .before .before .before .before .args .slip .now)))
-unfolding amountField placesOf
-amount-is c =
-    let s = c .before .before .before .before .before .before .before .before .before .args .slip .now in
-    c .amount-refusal .ensures ∙ ap (λ (f : List ℕ). firstOf (amountFaults f)) (part-from s _ (amountAt s) (ap (λ (p : Places). p .amount) (c .before .before .before .before .before .before .before .field-places .ensures)))
-
--- field seal: it stands inside, and what is found in it
-seal-in : (c : tie.After-field-places) → c .field-places .result .seal ≤ length (c .before .before .args .slip .now)
-unfolding placesOf
-seal-in c = rw (c .field-places .ensures) (seal-there (c .before .before .args .slip .now))
-
-seal-is : (c : tie.After-seal-refusal) → c .seal-refusal .result ≡ firstOf (sealFaults (sealField (c .before .before .before .before .before .before .before .before .before .before .before .before .args .slip .now)))
-unfolding sealField placesOf
-seal-is c =
-    let s = c .before .before .before .before .before .before .before .before .before .before .before .before .args .slip .now in
-    c .seal-refusal .ensures ∙ ap (λ (f : List ℕ). firstOf (sealFaults f)) (part-from s _ (sealAt s) (ap (λ (p : Places). p .seal) (c .before .before .before .before .before .before .before .before .before .before .field-places .ensures)))
-
 returns : tie.Need-returns
 unfolding layoutFaults
-returns c = head-first (expiryFaults (c .before .before .before .before .args .slip .now)) _ _ (c .before .expiry-refusal .ensures) (c .if1 .taken)
+returns c = head-first (expiryFaults (c .before .before .before .args .slip .now)) _ _ (c .before .expiry-refusal .ensures) (c .if1 .taken)
 
-sub-lot-refusal : tie.Need-sub-lot-refusal
-sub-lot-refusal c = lot-in (c .before .before)
+past-expiry : (c : tie.Else1) (r : ℕ) → let s = c .before .before .before .args .slip .now in r ≡ firstOf (lotFaults (lotField s) ++ (amountFaults (amountField s) ++ sealFaults (sealField s))) → r ≡ firstOf (layoutFaults s)
+unfolding layoutFaults
+past-expiry c r e = rest-first (expiryFaults (c .before .before .before .args .slip .now)) _ _ r (expiry-numbered _) (c .before .expiry-refusal .ensures) (c .if1 .left) e
 
-part-lot-refusal-start : tie.Need-part-lot-refusal-start
-part-lot-refusal-start c = lot-in (c .before .before)
+-- the lot stands inside, and what is found in it
+lot-in : (c : tie.Start) → c .args .at .lot ≤ length (c .args .slip .now)
+unfolding placesOf
+lot-in c = rw (c .pre) (lot-there (c .args .slip .now))
 
-part-lot-refusal-end : tie.Need-part-lot-refusal-end
-part-lot-refusal-end c = search needs
+sub-field-refusal : tie.Need-sub-field-refusal
+sub-field-refusal c = lot-in (c .before .before .before)
 
-lot-refusal-requires : tie.Need-lot-refusal-requires
-lot-refusal-requires c κs = search needs
+part-field-refusal-start : tie.Need-part-field-refusal-start
+part-field-refusal-start c = lot-in (c .before .before .before)
+
+lot-is : (c : tie.After-field-refusal) → c .field-refusal .result ≡ firstOf (lotFaults (lotField (c .before .before .before .before .before .args .slip .now)))
+unfolding lotFaults lotField placesOf
+lot-is c =
+    let s = c .before .before .before .before .before .args .slip .now in
+    c .field-refusal .ensures ∙ ap (λ (f : List ℕ). firstOf (lotFaults f)) (part-from s _ (lotAt s) (ap (λ (p : Places). p .lot) (c .before .before .before .before .before .pre)))
 
 returns-2 : tie.Need-returns-2
-unfolding layoutFaults
-returns-2 c = rest-first (expiryFaults (c .before .before .before .before .before .before .before .args .slip .now)) _ _ _ (expiry-numbered _) (c .before .before .before .before .expiry-refusal .ensures) (c .before .before .before .if1 .left) (head-first (lotFaults (lotField (c .before .before .before .before .before .before .before .args .slip .now))) _ _ (lot-is (c .before)) (c .if2 .taken))
+returns-2 c = past-expiry (c .before .before .before) _ (head-first (lotFaults (lotField (c .before .before .before .before .before .before .args .slip .now))) _ _ (lot-is (c .before)) (c .if2 .taken))
+
+past-lot : (c : tie.Else2) (r : ℕ) → let s = c .before .before .before .before .before .before .args .slip .now in r ≡ firstOf (amountFaults (amountField s) ++ sealFaults (sealField s)) → r ≡ firstOf (layoutFaults s)
+past-lot c r e = past-expiry (c .before .before .before) r (rest-first (lotFaults (lotField (c .before .before .before .before .before .before .args .slip .now))) _ _ r (lot-numbered _) (lot-is (c .before)) (c .if2 .left) e)
+
+-- the amount
+amount-in : (c : tie.Start) → c .args .at .amount ≤ length (c .args .slip .now)
+unfolding placesOf
+amount-in c = rw (c .pre) (amount-there (c .args .slip .now))
 
 sub-amount-refusal : tie.Need-sub-amount-refusal
-sub-amount-refusal c = amount-in (c .before .before .before .before .before)
+sub-amount-refusal c = amount-in (c .before .before .before .before .before .before)
 
 part-amount-refusal-start : tie.Need-part-amount-refusal-start
-part-amount-refusal-start c = amount-in (c .before .before .before .before .before)
+part-amount-refusal-start c = amount-in (c .before .before .before .before .before .before)
 
-part-amount-refusal-end : tie.Need-part-amount-refusal-end
-part-amount-refusal-end c = search needs
-
-amount-refusal-requires : tie.Need-amount-refusal-requires
-amount-refusal-requires c κs = search needs
+amount-is : (c : tie.After-amount-refusal) → let far = c .before .before .before .before .before .before in c .amount-refusal .result ≡ firstOf (amountFaults (amountField (far .before .before .args .slip .now)))
+unfolding amountField placesOf
+amount-is c =
+    let far = c .before .before .before .before .before .before in
+    let s = far .before .before .args .slip .now in
+    c .amount-refusal .ensures ∙ ap (λ (f : List ℕ). firstOf (amountFaults f)) (part-from s _ (amountAt s) (ap (λ (p : Places). p .amount) (far .before .before .pre)))
 
 returns-3 : tie.Need-returns-3
-unfolding layoutFaults
-returns-3 c = rest-first (expiryFaults (c .before .before .before .before .before .before .before .before .before .before .args .slip .now)) _ _ _ (expiry-numbered _) (c .before .before .before .before .before .before .before .expiry-refusal .ensures) (c .before .before .before .before .before .before .if1 .left) (rest-first (lotFaults (lotField (c .before .before .before .before .before .before .before .before .before .before .args .slip .now))) _ _ _ (lot-numbered _) (lot-is (c .before .before .before .before)) (c .before .before .before .if2 .left) (head-first (amountFaults (amountField (c .before .before .before .before .before .before .before .before .before .before .args .slip .now))) _ _ (amount-is (c .before)) (c .if3 .taken)))
+returns-3 c =
+    let far = c .before .before .before .before .before .before in
+    past-lot (c .before .before .before) _ (head-first (amountFaults (amountField (far .before .before .before .args .slip .now))) _ _ (amount-is (c .before)) (c .if3 .taken))
+
+-- the seal
+seal-in : (c : tie.Start) → c .args .at .seal ≤ length (c .args .slip .now)
+unfolding placesOf
+seal-in c = rw (c .pre) (seal-there (c .args .slip .now))
 
 sub-seal-refusal : tie.Need-sub-seal-refusal
-sub-seal-refusal c = seal-in (c .before .before .before .before .before .before .before .before)
+sub-seal-refusal c =
+    let far = c .before .before .before .before .before .before in
+    seal-in (far .before .before .before)
 
 part-seal-refusal-start : tie.Need-part-seal-refusal-start
-part-seal-refusal-start c = seal-in (c .before .before .before .before .before .before .before .before)
+part-seal-refusal-start c =
+    let far = c .before .before .before .before .before .before in
+    seal-in (far .before .before .before)
 
-part-seal-refusal-end : tie.Need-part-seal-refusal-end
-part-seal-refusal-end c = search needs
-
-seal-refusal-requires : tie.Need-seal-refusal-requires
-seal-refusal-requires c κs = search needs
+seal-is : (c : tie.After-seal-refusal) → let far = c .before .before .before .before .before .before in c .seal-refusal .result ≡ firstOf (sealFaults (sealField (far .before .before .before .before .before .args .slip .now)))
+unfolding sealField placesOf
+seal-is c =
+    let far = c .before .before .before .before .before .before in
+    let s = far .before .before .before .before .before .args .slip .now in
+    c .seal-refusal .ensures ∙ ap (λ (f : List ℕ). firstOf (sealFaults f)) (part-from s _ (sealAt s) (ap (λ (p : Places). p .seal) (far .before .before .before .before .before .pre)))
 
 returns-4 : tie.Need-returns-4
-unfolding layoutFaults
-returns-4 c = rest-first (expiryFaults (c .before .before .before .before .before .before .before .before .before .before .before .before .args .slip .now)) _ _ _ (expiry-numbered _) (c .before .before .before .before .before .before .before .before .before .expiry-refusal .ensures) (c .before .before .before .before .before .before .before .before .if1 .left) (rest-first (lotFaults (lotField (c .before .before .before .before .before .before .before .before .before .before .before .before .args .slip .now))) _ _ _ (lot-numbered _) (lot-is (c .before .before .before .before .before .before)) (c .before .before .before .before .before .if2 .left) (rest-first (amountFaults (amountField (c .before .before .before .before .before .before .before .before .before .before .before .before .args .slip .now))) _ _ _ (amount-numbered _) (amount-is (c .before .before .before)) (c .before .before .if3 .left) (seal-is c)))
+returns-4 c =
+    let far = c .before .before .before .before .before .before in
+    past-lot (c .before .before .before .before .before) _ (rest-first (amountFaults (amountField (far .before .before .before .before .before .args .slip .now))) _ _ _ (amount-numbered _) (amount-is (c .before .before .before)) (c .before .before .if3 .left) (seal-is c))
 
 pub layout-refusal-spec : {M : Type 1} → statement M
 layout-refusal-spec =
     tie.close
-    (tie.spec
-    field-places-requires
-    expiry-refusal-requires
-    returns
-    sub-lot-refusal
-    part-lot-refusal-start
-    part-lot-refusal-end
-    lot-refusal-requires
-    returns-2
-    sub-amount-refusal
-    part-amount-refusal-start
-    part-amount-refusal-end
-    amount-refusal-requires
-    returns-3
-    sub-seal-refusal
-    part-seal-refusal-start
-    part-seal-refusal-end
-    seal-refusal-requires
-    returns-4)
+    (tie.spec (λ c κs. search needs) returns sub-field-refusal part-field-refusal-start (λ c. search needs)
+    (λ c κs. search needs) returns-2 sub-amount-refusal part-amount-refusal-start (λ c. search needs) (λ c κs. search needs)
+    returns-3 sub-seal-refusal part-seal-refusal-start (λ c. search needs) (λ c κs. search needs) returns-4)

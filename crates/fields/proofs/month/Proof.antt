@@ -5,12 +5,9 @@ use borrow.Author.Needs.{needs}
 use Rattle.fields.proofs.month.Statement.{statement}
 use Rattle.fields.proofs.month.Tie as tie
 
-two-digits-requires : tie.Need-two-digits-requires
-two-digits-requires c κs = search needs
-
 returns : tie.Need-returns
 unfolding monthOf
 returns c = c .two-digits .ensures .0
 
 pub month-spec : {M : Type 1} → statement M
-month-spec = tie.close (tie.spec two-digits-requires returns)
+month-spec = tie.close (tie.spec (λ c κs. search needs) returns)

@@ -8,25 +8,11 @@ use borrow.Author.Needs.{needs}
 use Rattle.fields.proofs.two_digits.Statement.{statement}
 use Rattle.fields.proofs.two_digits.Tie as tie
 
-digit-requires : tie.Need-digit-requires
-digit-requires c κs = search needs
-
-mul-result : tie.Need-mul-result
-mul-result c = search needs
-
-add-digit : tie.Need-add-digit
-add-digit c = search needs
-
-digit-requires-2 : tie.Need-digit-requires-2
-digit-requires-2 c κs = search needs
-
-add-result : tie.Need-add-result
-add-result c = search needs
-
 returns : tie.Need-returns
 unfolding twoDigits
 returns c = (ap₂ (λ (h l : ℕ). 10 * h + l) (c .before .digit .ensures .0) (c .digit2 .ensures .0), omega (arith, c .before .digit .ensures .1, c .digit2 .ensures .1))
 
 pub two-digits-spec : {M : Type 1} → statement M
 two-digits-spec =
-    tie.close (tie.spec digit-requires mul-result add-digit digit-requires-2 add-result returns)
+    tie.close
+    (tie.spec (λ c κs. search needs) (λ c. search needs) (λ c. search needs) (λ c κs. search needs) (λ c. search needs) returns)

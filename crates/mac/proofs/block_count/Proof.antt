@@ -17,9 +17,6 @@ use Rattle.mac.proofs.block_count.Tie as tie
 a-byte : (c : ℕ) → 8 ≤ cipherAt c .n
 a-byte c = let W = width-at c in omega (arith, W .whole, W .some)
 
-width-requires : tie.Need-width-requires
-width-requires c κs = search needs
-
 div-result : tie.Need-div-result
 div-result c = omega (arith, lawful-at (c .before .before .args .cipher) .wide, c .width .ensures)
 
@@ -35,44 +32,30 @@ returns c =
     add-one (a .bits / c .width .result) ∙ ap (λ (k : ℕ). suc (a .bits / k)) (c .width .ensures)
     ∙ sym (count-two n (a .bits) (lawful-at (a .cipher) .wide) (a .padding) (c .before .if1 .taken))
 
-holding-requires : tie.Need-holding-requires
-holding-requires c κs = search needs
-
 add-result-2 : tie.Need-add-result-2
 add-result-2 c =
     let a = c .before .before .before .args in
     let n = cipherAt (a .cipher) .n in
-    omega (arith, c .holding .ensures, eighth n (a .bits - 1) (a-byte (a .cipher)))
+    omega (arith, c .needed .ensures, eighth n (a .bits - 1) (a-byte (a .cipher)))
 
 returns-2 : tie.Need-returns-2
 unfolding needed
 returns-2 c =
     let a = c .before .before .before .args in
     let n = cipherAt (a .cipher) .n in
-    add-one (c .holding .result) ∙ ap suc (c .holding .ensures)
+    add-one (c .needed .result) ∙ ap suc (c .needed .ensures)
     ∙ sym (count-three n (a .bits) (lawful-at (a .cipher) .wide) (a .padding) (c .before .if2 .taken))
-
-holding-requires-2 : tie.Need-holding-requires-2
-holding-requires-2 c κs = search needs
 
 returns-3 : tie.Need-returns-3
 unfolding needed
 returns-3 c =
     let a = c .before .before .before .args in
     let n = cipherAt (a .cipher) .n in
-    c .holding2 .ensures
+    c .needed2 .ensures
     ∙ sym (count-other n (a .bits) (lawful-at (a .cipher) .wide) (a .padding) (c .before .before .if1 .left) (c .before .if2 .left))
 
 pub block-count-spec : {M : Type 1} → statement M
 block-count-spec =
     tie.close
-    (tie.spec
-    width-requires
-    div-result
-    add-result
-    returns
-    holding-requires
-    add-result-2
-    returns-2
-    holding-requires-2
-    returns-3)
+    (tie.spec (λ c κs. search needs) div-result add-result returns (λ c κs. search needs) add-result-2 returns-2
+    (λ c κs. search needs) returns-3)

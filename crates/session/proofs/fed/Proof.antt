@@ -1,63 +1,49 @@
--- `fed` meets its contract: what `feed` ensures at the record's keys (`expands`) is the next record (`fed-is`).
+-- `fed` meets its contract: what `feed` ensures at the record's keys and settings is the next record.
 -- Assumes nothing.
-use mathlib.Core.Path.{_≡_}
-use denote.Ref.{now}
-use native.Mathlib.Omega.{arith}
-use lib.ListN.{length}
-use Rattle.chain.specs.Chain.{stateAt}
-use Rattle.session.specs.Record.{sessionBits, keysIn, stateIn}
-use Rattle.session.proofs.Answers.{expands, fed-is}
+use mathlib.Core.Path.{_≡_, sym, ap, _∙_}
+use Prim.Native.Nat.{ℕ, _+_}
+use lib.ListN.{take}
+use Rattle.bits.specs.Str.{bytesBits}
+use Rattle.cipher.specs.Cipher.{Cipher}
+use Rattle.cipher.specs.Ciphers.{cipherAt}
+use Rattle.settings.specs.declared.Settings.{Settings}
+use Rattle.mac.specs.Tag.{bitsOf}
+use Rattle.mac.specs.Session.{absorb}
+use Rattle.mac.proofs.TagBytes.{length-bitsOf}
+use Rattle.chain.specs.Chain.{roundsBits, roundsOf, stepsAt, stateAt, holdOf}
+use Rattle.session.specs.Record.{keysIn, stateIn, standing}
+use Rattle.session.specs.Calls.{stepsIn, fedOf}
 use borrow.Author.Needs.{needs}
 use Rattle.session.proofs.fed.Statement.{statement}
 use Rattle.session.proofs.fed.Tie as tie
 
-long-k : (c : tie.Start) → length (c .args .s .k) ≡ 16
-long-k c = search needs
-
-long-k1 : (c : tie.Start) → length (c .args .s .k1) ≡ 16
-long-k1 c = search needs
-
-long-k2 : (c : tie.After-key-bytes) → length (c .key-bytes .result .k2) ≡ 16
-long-k2 c = search needs
-
-key-bytes-requires : tie.Need-key-bytes-requires
-key-bytes-requires c κs = search needs
-
-table-requires : tie.Need-table-requires
-table-requires c κs = search needs
-
-expand-requires : tie.Need-expand-requires
-expand-requires c κs = search needs
+-- the round keys are those of the record's keys, under its settings
+rounds : (c : tie.After-rounds-of) → roundsBits (c .rounds-of .result) ≡ roundsOf 1 (c .before .before .of .result .algorithm) (keysIn (c .before .before .before .before .before .before .args .s))
+rounds c =
+    let s = c .before .before .before .before .before .before .args .s in
+    c .rounds-of .ensures ∙ ap (λ (S : Settings). roundsOf 1 (S .algorithm) (keysIn s)) (sym (c .before .before .of .ensures))
 
 feed-requires : tie.Need-feed-requires
-feed-requires c κs = search needs
-
-add-total : tie.Need-add-total
-add-total c = omega (arith, c .before .before .before .before .before .before .before .before .before .before .before .before .before .pre .2)
-
-phase-at-requires : tie.Need-phase-at-requires
-phase-at-requires c κs = search needs
+feed-requires c κs =
+    let at = c .before .before in
+    let start = at .before .before .before .before .before .before in
+    (at .before .before .before .before .table .ensures, (keysIn (start .args .s), rounds at), start .pre .0, start .pre .1)
 
 returns : tie.Need-returns
-unfolding sessionBits stateIn stateAt
+unfolding fedOf standing stateIn bitsOf
 returns c =
-    let at = c .before .before .before .before .before .before .before .before .before .before .before .before .before .before .before .before in
-    let s = at .args .s in
-    let unpacked = c .before .before .before .before .before .before .before .before .before .before .before .before in
-    let u = unpacked .key-bytes in
-    let feed = c .before .before .before .before .feed in
-    let phase = c .before .before .phase-at in
-    fed-is s (now (at .args .bytes)) (at .args .bits) (feed .result) (phase .result) (at .pre .0)
-    (feed .ensures (keysIn (sessionBits s)) (expands _ _ _ _ (u .result) (long-k at) (long-k1 at) (long-k2 unpacked) (u .ensures) (c .before .before .before .before .before .before .expand .ensures))) (phase .ensures)
+    let fed = c .before .before .before in
+    let at = fed .before .before .before in
+    let start = at .before .before .before .before .before .before in
+    let a = start .args in
+    let s = a .s in
+    let hold = fed .feed .ensures (keysIn s) (rounds at)
+    ∙ ap (λ (S : Settings). holdOf (absorb (cipherAt 1 .n) (stepsAt 1 (S .algorithm) (keysIn s)) (stateAt (cipherAt 1 .n) (S .padding) (s .total) (s .hold)) (take (a .bits) (bytesBits (a .bytes .now))))) (at .before .before .of .ensures) in
+    rw (hold, c .before .phase-at .ensures)
+    (ap (λ (n : ℕ). standing s (s .total + n) (absorb (cipherAt 1 .n) (stepsIn s) (stateIn s) (bitsOf (a .bytes .now) (a .bits)))) (sym (length-bitsOf (a .bytes .now) (a .bits) (start .pre .0))))
 
 pub fed-spec : {M : Type 1} → statement M
 fed-spec =
     tie.close
-    (tie.spec
-    key-bytes-requires
-    table-requires
-    expand-requires
-    feed-requires
-    add-total
-    phase-at-requires
-    returns)
+    (tie.spec (λ c κs. search needs) (λ c κs. search needs) (λ c κs. search needs) feed-requires (λ c. search needs)
+    (λ c κs. search needs) returns)

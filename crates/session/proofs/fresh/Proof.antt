@@ -1,46 +1,31 @@
--- `fresh` meets its contract, field by field: what `begin` ensures at the keys whose round keys were expanded (`expands`).
+-- `fresh` meets its contract: what `begin` ensures at the keys whose round keys were expanded.
 -- Assumes nothing.
-use Rattle.bits.specs.Str.{bytesBits}
-use Rattle.mac.specs.Algorithm.{keys}
-use Rattle.block.proofs.Windows.{blank, blank-bits}
-use Rattle.session.specs.declared.Phase.the-variants.{Edge}
-use Rattle.session.specs.Record.{sessionBits}
+use mathlib.Core.Path.{_≡_, refl, _∙_}
+use Rattle.cipher.specs.Ciphers.{cipherAt}
+use Rattle.cipher.proofs.Laws.{sm4-key}
+use Rattle.mac.specs.Padding.{methodAt}
+use Rattle.mac.specs.Algorithm.{algorithmAt}
+use Rattle.mac.specs.Session.{opened}
+use Rattle.keys.specs.Given.{keyBits}
+use Rattle.chain.specs.Chain.{holdOf, keyBlocks}
+use Rattle.chain.proofs.Rows.{whole-keys}
 use Rattle.session.specs.Calls.{freshOf}
-use Rattle.session.proofs.Answers.{expands}
 use borrow.Author.Needs.{needs}
 use Rattle.session.proofs.fresh.Statement.{statement}
 use Rattle.session.proofs.fresh.Tie as tie
 
-table-requires : tie.Need-table-requires
-table-requires c κs = search needs
-
-expand-requires : tie.Need-expand-requires
-expand-requires c κs = search needs
-
-cast-begin : tie.Need-cast-begin
-cast-begin c = search needs
-
-begin-requires : tie.Need-begin-requires
-begin-requires c κs = search needs
+keys-are : (c : tie.Start) → keyBlocks 1 (c .args .keys) ≡ keyBits (c .args .keys)
+keys-are c = whole-keys 1 (c .args .keys) sm4-key (search needs) (search needs) (search needs)
 
 returns : tie.Need-returns
-unfolding sessionBits freshOf blank
+unfolding freshOf
 returns c =
-    let at = c .before .before .before .before .before .before .before .before in
-    let a = at .args in
-    let value = c .begin .ensures (keys (bytesBits (a .u .k)) (bytesBits (a .u .k1))) (expands _ _ _ _ (a .u) (search needs) (search needs) (search needs) (at .pre .1) (c .before .before .expand .ensures)) in
-    λ i. record {
-      phase = Edge;
-      algorithm = a .algorithm;
-      padding = a .padding;
-      m = a .m;
-      declared = a .declared;
-      total = 0;
-      k = bytesBits (a .u .k);
-      k′ = bytesBits (a .u .k1);
-      chain = value i;
-      held = blank-bits i;
-    }
+    let at = c .before .before in
+    let start = at .before .before .before in
+    let a = start .args in
+    let S = start .pre .0 in
+    let begun = c .begin .ensures (keyBlocks 1 (a .keys)) (at .expand .ensures) ∙ (λ i. holdOf (opened (cipherAt 1) (algorithmAt (S i .algorithm)) (methodAt (S i .padding)) (keys-are start i) (a .declared))) in
+    rw begun refl
 
 pub fresh-spec : {M : Type 1} → statement M
-fresh-spec = tie.close (tie.spec table-requires expand-requires cast-begin begin-requires returns)
+fresh-spec = tie.close (tie.spec (λ c κs. search needs) (λ c κs. search needs) (λ c. search needs) (λ c κs. search needs) returns)

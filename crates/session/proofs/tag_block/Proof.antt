@@ -1,45 +1,38 @@
--- `tag_block` meets its contract: what `close` ensures at the record's keys (`expands`).
+-- `tag_block` meets its contract: what `close` ensures at the record's keys and settings.
 -- Assumes nothing.
-use mathlib.Core.Path.{_≡_}
-use lib.ListN.{length}
-use Rattle.chain.specs.Chain.{stateAt}
-use Rattle.session.specs.Record.{sessionBits, keysIn, stateIn}
+use mathlib.Core.Path.{_≡_, sym, ap, _∙_}
+use Rattle.block.specs.Block.{filledBlock}
+use Rattle.cipher.specs.Cipher.{Cipher}
+use Rattle.cipher.specs.Ciphers.{cipherAt}
+use Rattle.settings.specs.declared.Settings.{Settings}
+use Rattle.mac.specs.Padding.{methodAt, suffix, complete}
+use Rattle.mac.specs.Session.{absorb, finish}
+use Rattle.chain.specs.Chain.{roundsBits, roundsOf, stepsAt, stateAt}
+use Rattle.session.specs.Record.{keysIn, stateIn}
 use Rattle.session.specs.Calls.{tagIn}
-use Rattle.session.proofs.Answers.{expands}
 use borrow.Author.Needs.{needs}
 use Rattle.session.proofs.tag_block.Statement.{statement}
 use Rattle.session.proofs.tag_block.Tie as tie
 
-long-k : (c : tie.Start) → length (c .args .s .k) ≡ 16
-long-k c = search needs
-
-long-k1 : (c : tie.Start) → length (c .args .s .k1) ≡ 16
-long-k1 c = search needs
-
-long-k2 : (c : tie.After-key-bytes) → length (c .key-bytes .result .k2) ≡ 16
-long-k2 c = search needs
-
-key-bytes-requires : tie.Need-key-bytes-requires
-key-bytes-requires c κs = search needs
-
-table-requires : tie.Need-table-requires
-table-requires c κs = search needs
-
-expand-requires : tie.Need-expand-requires
-expand-requires c κs = search needs
+-- the round keys are those of the record's keys, under its settings
+rounds : (c : tie.After-rounds-of) → roundsBits (c .rounds-of .result) ≡ roundsOf 1 (c .before .before .of .result .algorithm) (keysIn (c .before .before .before .before .before .args .s))
+rounds c =
+    let s = c .before .before .before .before .before .args .s in
+    c .rounds-of .ensures ∙ ap (λ (S : Settings). roundsOf 1 (S .algorithm) (keysIn s)) (sym (c .before .before .of .ensures))
 
 close-requires : tie.Need-close-requires
-close-requires c κs = search needs
+close-requires c κs =
+    let at = c .before .before in
+    (at .before .before .before .before .table .ensures, (keysIn (at .before .before .before .before .before .args .s), rounds at))
 
 returns : tie.Need-returns
-unfolding sessionBits tagIn stateIn stateAt
+unfolding tagIn stateIn
 returns c =
-    let at = c .before .before .before .before .before .before .before .before in
-    let start = at .before .before .before in
-    let u = at .key-bytes in
-    c .close .ensures (keysIn (sessionBits (start .args .s)))
-    (expands _ _ _ _ (u .result) (long-k start) (long-k1 start) (long-k2 at) (u .ensures) (c .before .before .expand .ensures))
+    let at = c .before .before .before in
+    let s = at .before .before .before .before .before .args .s in
+    let n = cipherAt 1 .n in
+    c .close .ensures (keysIn s) (rounds at)
+    ∙ ap (λ (S : Settings). filledBlock (finish (stepsAt 1 (S .algorithm) (keysIn s)) (complete n (s .total)) (S .m) (absorb n (stepsAt 1 (S .algorithm) (keysIn s)) (stateAt n (S .padding) (s .total) (s .hold)) (suffix (methodAt (S .padding)) n (s .total))) .out)) (at .before .before .of .ensures)
 
 pub tag-block-spec : {M : Type 1} → statement M
-tag-block-spec =
-    tie.close (tie.spec key-bytes-requires table-requires expand-requires close-requires returns)
+tag-block-spec = tie.close (tie.spec (λ c κs. search needs) (λ c κs. search needs) (λ c κs. search needs) close-requires returns)

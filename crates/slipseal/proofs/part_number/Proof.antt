@@ -9,12 +9,6 @@ use Rattle.slipseal.proofs.part_number.Tie as tie
 enum-told : tie.Need-enum-told
 enum-told c = search needs
 
-enum-told-2 : tie.Need-enum-told-2
-enum-told-2 c = search needs
-
-enum-known-phase : tie.Need-enum-known-phase
-enum-known-phase c = search needs
-
 returns : tie.Need-returns
 unfolding partNumber
 returns c = rw (c .enum-told .given .1) refl
@@ -28,5 +22,4 @@ unfolding partNumber
 returns-3 c = rw (c .before .phase .given .1) refl
 
 pub part-number-spec : {M : Type 1} → statement M
-part-number-spec =
-    tie.close (tie.spec enum-told enum-told-2 enum-known-phase returns returns-2 returns-3)
+part-number-spec = tie.close (tie.spec enum-told (λ c. search needs) (λ c. search needs) returns returns-2 returns-3)

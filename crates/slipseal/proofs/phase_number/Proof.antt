@@ -9,12 +9,6 @@ use Rattle.slipseal.proofs.phase_number.Tie as tie
 enum-told : tie.Need-enum-told
 enum-told c = search needs
 
-enum-told-2 : tie.Need-enum-told-2
-enum-told-2 c = search needs
-
-enum-told-3 : tie.Need-enum-told-3
-enum-told-3 c = search needs
-
 returns : tie.Need-returns
 unfolding phaseNumber
 returns c = rw (c .enum-told .given .1) refl
@@ -28,5 +22,4 @@ unfolding phaseNumber
 returns-3 c = rw (c .enum-told3 .given .1) refl
 
 pub phase-number-spec : {M : Type 1} → statement M
-phase-number-spec =
-    tie.close (tie.spec enum-told enum-told-2 enum-told-3 returns returns-2 returns-3)
+phase-number-spec = tie.close (tie.spec enum-told (λ c. search needs) (λ c. search needs) returns returns-2 returns-3)

@@ -6,14 +6,8 @@ use borrow.Author.Needs.{needs}
 use Rattle.slipseal.proofs.slipseal_check.Statement.{statement}
 use Rattle.slipseal.proofs.slipseal_check.Tie as tie
 
-check-requires : tie.Need-check-requires
-check-requires c κs = search needs
-
-told-requires : tie.Need-told-requires
-told-requires c κs = search needs
-
 returns : tie.Need-returns
 returns c = c .told .ensures ∙ ap toldOf (c .before .check .ensures)
 
 pub slipseal-check-spec : {M : Type 1} → statement M
-slipseal-check-spec = tie.close (tie.spec check-requires told-requires returns)
+slipseal-check-spec = tie.close (tie.spec (λ c κs. search needs) (λ c κs. search needs) returns)

@@ -10,18 +10,6 @@ use Rattle.slipseal.proofs.told.Tie as tie
 enum-told : tie.Need-enum-told
 enum-told c = search needs
 
-enum-known-answer : tie.Need-enum-known-answer
-enum-known-answer c = search needs
-
-enum-known-answer-2 : tie.Need-enum-known-answer-2
-enum-known-answer-2 c = search needs
-
-enum-known-answer-3 : tie.Need-enum-known-answer-3
-enum-known-answer-3 c = search needs
-
-enum-known-answer-4 : tie.Need-enum-known-answer-4
-enum-known-answer-4 c = search needs
-
 returns : tie.Need-returns
 unfolding toldOf yesOf numberOf reportedCalls
 returns c = rw (c .enum-told .given .1) refl
@@ -45,14 +33,5 @@ returns-5 c = rw (c .before .answer4 .given .1) refl
 pub told-spec : {M : Type 1} → statement M
 told-spec =
     tie.close
-    (tie.spec
-    enum-told
-    enum-known-answer
-    enum-known-answer-2
-    enum-known-answer-3
-    enum-known-answer-4
-    returns
-    returns-2
-    returns-3
-    returns-4
-    returns-5)
+    (tie.spec enum-told (λ c. search needs) (λ c. search needs) (λ c. search needs) (λ c. search needs) returns returns-2
+    returns-3 returns-4 returns-5)

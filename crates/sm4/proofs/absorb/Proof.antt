@@ -8,15 +8,6 @@ use borrow.Author.Needs.{needs}
 use Rattle.sm4.proofs.absorb.Statement.{statement}
 use Rattle.sm4.proofs.absorb.Tie as tie
 
-load-requires : tie.Need-load-requires
-load-requires c κs = search needs
-
-xor-requires : tie.Need-xor-requires
-xor-requires c κs = search needs
-
-wide-rounds-requires : tie.Need-wide-rounds-requires
-wide-rounds-requires c κs = search needs
-
 returns : tie.Need-returns
 unfolding enc
 returns c =
@@ -27,4 +18,4 @@ returns c =
     ∙ ap (λ (X : Quad). R (rounds T X (words (a .rk)))) (c .before .xor .ensures ∙ ap (λ (b : Bits). quad (xorB b (flat (four (words (a .h)))))) block))
 
 pub absorb-spec : {M : Type 1} → statement M
-absorb-spec = tie.close (tie.spec load-requires xor-requires wide-rounds-requires returns)
+absorb-spec = tie.close (tie.spec (λ c κs. search needs) (λ c κs. search needs) (λ c κs. search needs) returns)

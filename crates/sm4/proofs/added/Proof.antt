@@ -6,27 +6,6 @@ use borrow.Author.Needs.{needs}
 use Rattle.sm4.proofs.added.Statement.{statement}
 use Rattle.sm4.proofs.added.Tie as tie
 
-mul-rotl32 : tie.Need-mul-rotl32
-mul-rotl32 c = search needs
-
-add-rotl32 : tie.Need-add-rotl32
-add-rotl32 c = search needs
-
-mul-rotl32-2 : tie.Need-mul-rotl32-2
-mul-rotl32-2 c = search needs
-
-element-copy-out-rotl32 : tie.Need-element-copy-out-rotl32
-element-copy-out-rotl32 c = search needs
-
-mul-rotl32-3 : tie.Need-mul-rotl32-3
-mul-rotl32-3 c = search needs
-
-sub-rotl32 : tie.Need-sub-rotl32
-sub-rotl32 c = search needs
-
-rotl32-requires : tie.Need-rotl32-requires
-rotl32-requires c κs = search needs
-
 returns : tie.Need-returns
 returns c =
     let at = c .before .before in
@@ -36,12 +15,5 @@ returns c =
 pub added-spec : {M : Type 1} → statement M
 added-spec =
     tie.close
-    (tie.spec
-    mul-rotl32
-    add-rotl32
-    mul-rotl32-2
-    element-copy-out-rotl32
-    mul-rotl32-3
-    sub-rotl32
-    rotl32-requires
-    returns)
+    (tie.spec (λ c. search needs) (λ c. search needs) (λ c. search needs) (λ c. search needs) (λ c. search needs)
+    (λ c. search needs) (λ c κs. search needs) returns)

@@ -9,15 +9,6 @@ use borrow.Author.Needs.{needs}
 use Rattle.sm4.proofs.key_start.Statement.{statement}
 use Rattle.sm4.proofs.key_start.Tie as tie
 
-slice-aggregate-load : tie.Need-slice-aggregate-load
-slice-aggregate-load c = search needs
-
-load-requires : tie.Need-load-requires
-load-requires c κs = search needs
-
-xor-requires : tie.Need-xor-requires
-xor-requires c κs = search needs
-
 returns : tie.Need-returns
 unfolding FK
 returns c =
@@ -25,4 +16,4 @@ returns c =
     ∙ ap (λ (b : Bits). quad (xorB b (flat (four (words FK))))) (flat-loaded _ _ (search needs) (c .before .load .ensures))
 
 pub key-start-spec : {M : Type 1} → statement M
-key-start-spec = tie.close (tie.spec slice-aggregate-load load-requires xor-requires returns)
+key-start-spec = tie.close (tie.spec (λ c. search needs) (λ c κs. search needs) (λ c κs. search needs) returns)

@@ -17,35 +17,11 @@ Inv-loop t rk s₀ turn₀ s turn = Walked T (words rk) s₀ s turn
 abbrev μ-loop : tie.MeasureT-loop
 μ-loop t rk s₀ turn₀ s turn = 32 - turn
 
-array-read-parted : tie.Need-array-read-parted Inv-loop μ-loop
-array-read-parted c = search needs
-
-parted-requires : tie.Need-parted-requires Inv-loop μ-loop
-parted-requires c κs = search needs
-
 loop-holds : tie.Need-loop-holds Inv-loop μ-loop
 loop-holds c =
     let rk = c .before .args .t2 in
     let all : length rk ≡ 32 = search needs in
     walk-start T (words rk) (length-keys rk all) (c .parted .result) _ (key-at rk all 0) (c .parted .ensures .1)
-
-add-step : tie.Need-add-step Inv-loop μ-loop
-add-step c = search needs
-
-mul-step : tie.Need-mul-step Inv-loop μ-loop
-mul-step c = search needs
-
-array-read-step : tie.Need-array-read-step Inv-loop μ-loop
-array-read-step c = search needs
-
-step-requires : tie.Need-step-requires Inv-loop μ-loop
-step-requires c κs = search needs
-
-add-turn : tie.Need-add-turn Inv-loop μ-loop
-add-turn c = search needs
-
-loop-less : tie.Need-loop-less Inv-loop μ-loop
-loop-less c = search needs
 
 loop-again : tie.Need-loop-again Inv-loop μ-loop
 unfolding mixing
@@ -55,9 +31,6 @@ loop-again c =
     let rk = at .before .before .args .t2 in
     let all : length rk ≡ 32 = search needs in
     walk-on T (words rk) (length-keys rk all) _ (l .s) (c .step .result) (l .turn) (l .inv) (search needs) _ (key-at rk all (l .turn + 1)) (c .step .ensures)
-
-reversed-requires : tie.Need-reversed-requires Inv-loop μ-loop
-reversed-requires c κs = search needs
 
 returns : tie.Need-returns Inv-loop μ-loop
 returns c =
@@ -71,18 +44,5 @@ returns c =
 pub rounds-spec : {M : Type 1} → statement M
 rounds-spec =
     tie.close
-    (tie.spec
-    Inv-loop
-    μ-loop
-    array-read-parted
-    parted-requires
-    loop-holds
-    add-step
-    mul-step
-    array-read-step
-    step-requires
-    add-turn
-    loop-less
-    loop-again
-    reversed-requires
-    returns)
+    (tie.spec Inv-loop μ-loop (λ c. search needs) (λ c κs. search needs) loop-holds (λ c. search needs) (λ c. search needs)
+    (λ c. search needs) (λ c κs. search needs) (λ c. search needs) (λ c. search needs) loop-again (λ c κs. search needs) returns)

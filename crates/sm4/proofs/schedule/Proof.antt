@@ -26,15 +26,9 @@ Inv-loop t c s₀ r₀ i₀ s r i =
 abbrev μ-loop : tie.MeasureT-loop
 μ-loop t c s₀ r₀ i₀ s r i = 32 - i
 
-key-start-requires : tie.Need-key-start-requires Inv-loop μ-loop
-key-start-requires c κs = search needs
-
 constant-requires : tie.Need-constant-requires Inv-loop μ-loop
 unfolding CKs CK ck bytesBits flatMap bitsN words
 constant-requires c κs = (refl, search needs)
-
-parted-requires : tie.Need-parted-requires Inv-loop μ-loop
-parted-requires c κs = search needs
 
 loop-holds : tie.Need-loop-holds Inv-loop μ-loop
 unfolding made words
@@ -44,27 +38,9 @@ loop-holds c = (
   refl,
 )
 
-add-constant : tie.Need-add-constant Inv-loop μ-loop
-add-constant c = search needs
-
 constant-requires-2 : tie.Need-constant-requires-2 Inv-loop μ-loop
 unfolding CKs CK ck bytesBits flatMap bitsN words
 constant-requires-2 c κs = (refl, search needs)
-
-step-requires : tie.Need-step-requires Inv-loop μ-loop
-step-requires c κs = search needs
-
-mul-r : tie.Need-mul-r Inv-loop μ-loop
-mul-r c = search needs
-
-array-write-r : tie.Need-array-write-r Inv-loop μ-loop
-array-write-r c = search needs
-
-add-i : tie.Need-add-i Inv-loop μ-loop
-add-i c = search needs
-
-loop-less : tie.Need-loop-less Inv-loop μ-loop
-loop-less c = search needs
 
 loop-again : tie.Need-loop-again Inv-loop μ-loop
 unfolding mixing
@@ -94,19 +70,6 @@ returns c =
 pub schedule-spec : {M : Type 1} → statement M
 schedule-spec =
     tie.close
-    (tie.spec
-    Inv-loop
-    μ-loop
-    key-start-requires
-    constant-requires
-    parted-requires
-    loop-holds
-    add-constant
-    constant-requires-2
-    step-requires
-    mul-r
-    array-write-r
-    add-i
-    loop-less
-    loop-again
-    returns)
+    (tie.spec Inv-loop μ-loop (λ c κs. search needs) constant-requires (λ c κs. search needs) loop-holds (λ c. search needs)
+    constant-requires-2 (λ c κs. search needs) (λ c. search needs) (λ c. search needs) (λ c. search needs) (λ c. search needs)
+    loop-again returns)

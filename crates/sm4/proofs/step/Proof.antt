@@ -9,33 +9,6 @@ use borrow.Author.Needs.{needs}
 use Rattle.sm4.proofs.step.Statement.{statement}
 use Rattle.sm4.proofs.step.Tie as tie
 
-bytes-requires : tie.Need-bytes-requires
-bytes-requires c κs = search needs
-
-array-read-added : tie.Need-array-read-added
-array-read-added c = search needs
-
-added-requires : tie.Need-added-requires
-added-requires c κs = search needs
-
-array-read-added-2 : tie.Need-array-read-added-2
-array-read-added-2 c = search needs
-
-added-requires-2 : tie.Need-added-requires-2
-added-requires-2 c κs = search needs
-
-array-read-added-3 : tie.Need-array-read-added-3
-array-read-added-3 c = search needs
-
-added-requires-3 : tie.Need-added-requires-3
-added-requires-3 c κs = search needs
-
-array-read-added-4 : tie.Need-array-read-added-4
-array-read-added-4 c = search needs
-
-added-requires-4 : tie.Need-added-requires-4
-added-requires-4 c κs = search needs
-
 returns : tie.Need-returns
 returns c =
     let at = c .before .before .before .before .before .before in
@@ -50,14 +23,5 @@ returns c =
 pub step-spec : {M : Type 1} → statement M
 step-spec =
     tie.close
-    (tie.spec
-    bytes-requires
-    array-read-added
-    added-requires
-    array-read-added-2
-    added-requires-2
-    array-read-added-3
-    added-requires-3
-    array-read-added-4
-    added-requires-4
-    returns)
+    (tie.spec (λ c κs. search needs) (λ c. search needs) (λ c κs. search needs) (λ c. search needs) (λ c κs. search needs)
+    (λ c. search needs) (λ c κs. search needs) (λ c. search needs) (λ c κs. search needs) returns)

@@ -6,21 +6,6 @@ use borrow.Author.Needs.{needs}
 use Rattle.sm4.proofs.wide_added.Statement.{statement}
 use Rattle.sm4.proofs.wide_added.Tie as tie
 
-sub-result : tie.Need-sub-result
-sub-result c = search needs
-
-mul-result : tie.Need-mul-result
-mul-result c = search needs
-
-add-result : tie.Need-add-result
-add-result c = search needs
-
-mul-result-2 : tie.Need-mul-result-2
-mul-result-2 c = search needs
-
-element-copy-out-result : tie.Need-element-copy-out-result
-element-copy-out-result c = search needs
-
 returns : tie.Need-returns
 unfolding rotations
 returns c =
@@ -30,4 +15,4 @@ returns c =
 pub wide-added-spec : {M : Type 1} → statement M
 wide-added-spec =
     tie.close
-    (tie.spec sub-result mul-result add-result mul-result-2 element-copy-out-result returns)
+    (tie.spec (λ c. search needs) (λ c. search needs) (λ c. search needs) (λ c. search needs) (λ c. search needs) returns)

@@ -16,35 +16,11 @@ Inv-loop t w rk s₀ i₀ s i = Walked T (words rk) s₀ s i
 abbrev μ-loop : tie.MeasureT-loop
 μ-loop t w rk s₀ i₀ s i = 32 - i
 
-array-read-parted : tie.Need-array-read-parted Inv-loop μ-loop
-array-read-parted c = search needs
-
-parted-requires : tie.Need-parted-requires Inv-loop μ-loop
-parted-requires c κs = search needs
-
 loop-holds : tie.Need-loop-holds Inv-loop μ-loop
 loop-holds c =
     let rk = c .before .args .t3 in
     let all : length rk ≡ 32 = search needs in
     walk-start T (words rk) (length-keys rk all) (c .parted .result) _ (key-at rk all 0) (c .parted .ensures .1)
-
-add-wide-step : tie.Need-add-wide-step Inv-loop μ-loop
-add-wide-step c = search needs
-
-mul-wide-step : tie.Need-mul-wide-step Inv-loop μ-loop
-mul-wide-step c = search needs
-
-array-read-wide-step : tie.Need-array-read-wide-step Inv-loop μ-loop
-array-read-wide-step c = search needs
-
-wide-step-requires : tie.Need-wide-step-requires Inv-loop μ-loop
-wide-step-requires c κs = search needs
-
-add-i : tie.Need-add-i Inv-loop μ-loop
-add-i c = search needs
-
-loop-less : tie.Need-loop-less Inv-loop μ-loop
-loop-less c = search needs
 
 loop-again : tie.Need-loop-again Inv-loop μ-loop
 loop-again c =
@@ -53,9 +29,6 @@ loop-again c =
     let rk = at .before .before .args .t3 in
     let all : length rk ≡ 32 = search needs in
     walk-on T (words rk) (length-keys rk all) _ (l .s) (c .wide-step .result) (l .i) (l .inv) (search needs) _ (key-at rk all (l .i + 1)) (c .wide-step .ensures)
-
-reversed-requires : tie.Need-reversed-requires Inv-loop μ-loop
-reversed-requires c κs = search needs
 
 returns : tie.Need-returns Inv-loop μ-loop
 returns c =
@@ -69,18 +42,5 @@ returns c =
 pub wide-rounds-spec : {M : Type 1} → statement M
 wide-rounds-spec =
     tie.close
-    (tie.spec
-    Inv-loop
-    μ-loop
-    array-read-parted
-    parted-requires
-    loop-holds
-    add-wide-step
-    mul-wide-step
-    array-read-wide-step
-    wide-step-requires
-    add-i
-    loop-less
-    loop-again
-    reversed-requires
-    returns)
+    (tie.spec Inv-loop μ-loop (λ c. search needs) (λ c κs. search needs) loop-holds (λ c. search needs) (λ c. search needs)
+    (λ c. search needs) (λ c κs. search needs) (λ c. search needs) (λ c. search needs) loop-again (λ c κs. search needs) returns)

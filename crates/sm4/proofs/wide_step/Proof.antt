@@ -8,33 +8,6 @@ use borrow.Author.Needs.{needs}
 use Rattle.sm4.proofs.wide_step.Statement.{statement}
 use Rattle.sm4.proofs.wide_step.Tie as tie
 
-bytes-requires : tie.Need-bytes-requires
-bytes-requires c κs = search needs
-
-array-read-added : tie.Need-array-read-added
-array-read-added c = search needs
-
-added-requires : tie.Need-added-requires
-added-requires c κs = search needs
-
-array-read-wide-added : tie.Need-array-read-wide-added
-array-read-wide-added c = search needs
-
-wide-added-requires : tie.Need-wide-added-requires
-wide-added-requires c κs = search needs
-
-array-read-wide-added-2 : tie.Need-array-read-wide-added-2
-array-read-wide-added-2 c = search needs
-
-wide-added-requires-2 : tie.Need-wide-added-requires-2
-wide-added-requires-2 c κs = search needs
-
-array-read-wide-added-3 : tie.Need-array-read-wide-added-3
-array-read-wide-added-3 c = search needs
-
-wide-added-requires-3 : tie.Need-wide-added-requires-3
-wide-added-requires-3 c κs = search needs
-
 returns : tie.Need-returns
 unfolding rotations mixing
 returns c =
@@ -50,14 +23,5 @@ returns c =
 pub wide-step-spec : {M : Type 1} → statement M
 wide-step-spec =
     tie.close
-    (tie.spec
-    bytes-requires
-    array-read-added
-    added-requires
-    array-read-wide-added
-    wide-added-requires
-    array-read-wide-added-2
-    wide-added-requires-2
-    array-read-wide-added-3
-    wide-added-requires-3
-    returns)
+    (tie.spec (λ c κs. search needs) (λ c. search needs) (λ c κs. search needs) (λ c. search needs) (λ c κs. search needs)
+    (λ c. search needs) (λ c κs. search needs) (λ c. search needs) (λ c κs. search needs) returns)

@@ -12,69 +12,9 @@ Inv-loop line before at₀ left₀ at left = at ≤ length line
 abbrev μ-loop : tie.MeasureT-loop
 μ-loop line before at₀ left₀ at left = left
 
-loop-holds : tie.Need-loop-holds Inv-loop μ-loop
-loop-holds c = search needs
-
-find-requires : tie.Need-find-requires Inv-loop μ-loop
-find-requires c κs = search needs
-
-sub-result : tie.Need-sub-result Inv-loop μ-loop
-sub-result c = search needs
-
-part-result-start : tie.Need-part-result-start Inv-loop μ-loop
-part-result-start c = search needs
-
-part-result-end : tie.Need-part-result-end Inv-loop μ-loop
-part-result-end c = search needs
-
-returns : tie.Need-returns Inv-loop μ-loop
-returns c = search needs
-
-add-at : tie.Need-add-at Inv-loop μ-loop
-add-at c = search needs
-
-sub-left : tie.Need-sub-left Inv-loop μ-loop
-sub-left c = search needs
-
-loop-less : tie.Need-loop-less Inv-loop μ-loop
-loop-less c = search needs
-
-loop-again : tie.Need-loop-again Inv-loop μ-loop
-loop-again c = search needs
-
-find-requires-2 : tie.Need-find-requires-2 Inv-loop μ-loop
-find-requires-2 c κs = search needs
-
-sub-result-2 : tie.Need-sub-result-2 Inv-loop μ-loop
-sub-result-2 c = search needs
-
-part-result-start-2 : tie.Need-part-result-start-2 Inv-loop μ-loop
-part-result-start-2 c = search needs
-
-part-result-end-2 : tie.Need-part-result-end-2 Inv-loop μ-loop
-part-result-end-2 c = search needs
-
-returns-2 : tie.Need-returns-2 Inv-loop μ-loop
-returns-2 c = search needs
-
 pub word-spec : {M : Type 1} → statement M
 word-spec =
     tie.close
-    (tie.spec
-    Inv-loop
-    μ-loop
-    loop-holds
-    find-requires
-    sub-result
-    part-result-start
-    part-result-end
-    returns
-    add-at
-    sub-left
-    loop-less
-    loop-again
-    find-requires-2
-    sub-result-2
-    part-result-start-2
-    part-result-end-2
-    returns-2)
+    (tie.spec Inv-loop μ-loop (λ c. search needs) (λ c κs. search needs) (λ c. search needs) (λ c. search needs)
+    (λ c. search needs) (λ c. search needs) (λ c. search needs) (λ c. search needs) (λ c. search needs) (λ c. search needs)
+    (λ c κs. search needs) (λ c. search needs) (λ c. search needs) (λ c. search needs) (λ c. search needs))

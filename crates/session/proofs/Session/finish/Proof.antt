@@ -1,80 +1,65 @@
 -- `finish` meets its contract: the refusal with record and room as they came, or the tag's bytes put into the room (`room-is`).
 -- Assumes nothing.
-use mathlib.Core.Path.{_≡_, sym, _∙_}
+use mathlib.Core.Path.{_≡_, sym, ap, _∙_}
 use native.Mathlib.Omega.{arith}
 use borrow.Author.Tests.{eq-eqb, ne-eqb}
-use denote.Ref.{now}
 use lib.ListN.{length}
 use Rattle.bits.proofs.Choice.{hit, miss}
+use Rattle.cipher.specs.Cipher.{Cipher}
+use Rattle.cipher.specs.Ciphers.{cipherAt}
+use Rattle.mac.specs.declared.Row.{Row}
+use Rattle.mac.specs.Padding.{methodAt, blockCount}
+use Rattle.mac.specs.Algorithm.{algorithmAt, row}
+use Prim.Native.Nat.{ℕ, _+_}
 use Rattle.mac.specs.Tag.{bytesFor}
-use Rattle.settings.specs.declared.Answer.the-variants.{Made, Refused}
-use Rattle.session.specs.Record.{sessionBits}
-use Rattle.session.specs.Calls.{stepBits, callsIn, finishOf}
-use Rattle.session.proofs.Open.{ended}
+use Rattle.settings.specs.declared.Settings.{Settings}
+use Rattle.settings.specs.declared.Outcome.the-variants.{Made, Refused}
+use Rattle.session.specs.declared.Session.{Session}
+use Rattle.session.specs.Calls.{callsIn, finishOf}
+use Rattle.session.proofs.Open.{Ended, ended}
 use Rattle.session.proofs.Answers.{room-is}
 use borrow.Author.Needs.{needs}
 use Rattle.session.proofs.Session.finish.Statement.{statement}
 use Rattle.session.proofs.Session.finish.Tie as tie
 
 -- the record's own blocks
-blocks : (c : tie.Start) → (length (c .args .self .chain) ≡ 16) × (length (c .args .self .held) ≡ 16)
+blocks : (c : tie.Start) → (length (c .args .self .hold .value) ≡ 16) × (length (c .args .self .hold .held) ≡ 16)
 blocks c = search needs
 
-finish-refusal-requires : tie.Need-finish-refusal-requires
-finish-refusal-requires c κs = search needs
-
 returns : tie.Need-returns
-unfolding finishOf stepBits
+unfolding finishOf
 returns c =
-    let no = c .before .finish-refusal .ensures in
-    let a = c .before .before .before .args in
-    miss _ _ _ _ (ne-eqb _ 0 (λ z. c .if1 .taken (no ∙ z))) (λ i. ((Refused (no i), sessionBits (a .self)), now (a .room)))
+    let at = c .before in
+    let refused = at .finish-refusal .ensures in
+    let a = at .before .before .args in
+    miss _ _ _ _ (ne-eqb _ 0 (λ z. c .if1 .taken (refused ∙ z))) (ap (λ (n : ℕ). (record { answer = Refused n; session = a .self }, a .room .now)) refused)
 
-tag-block-requires : tie.Need-tag-block-requires
-tag-block-requires c κs = search needs
-
-bytes-for-requires : tie.Need-bytes-for-requires
-bytes-for-requires c κs = search needs
+-- a finish that is not refused
+goes : (c : tie.Else1) → let a = c .before .before .before .args in Ended (a .self) (length (a .room .now))
+goes c = let a = c .before .before .before .args in ended (a .self) (length (a .room .now)) (sym (c .before .finish-refusal .ensures) ∙ c .if1 .left)
 
 put-requires : tie.Need-put-requires
-unfolding sessionBits bytesFor
+unfolding bytesFor
 put-requires c κs =
-    let a = c .before .before .before .before .before .before .args in
-    let no = sym (c .before .before .before .before .finish-refusal .ensures) ∙ c .before .before .before .if1 .left in
-    let f = ended (sessionBits (a .self)) (length (now (a .room))) no in
+    let f = goes (c .before .before .before .before) in
     rw (c .before .bytes-for .ensures) (omega (arith, f .stands .short), f .wide)
 
-closed-session-requires : tie.Need-closed-session-requires
-closed-session-requires c κs = search needs
-
-calls-requires : tie.Need-calls-requires
-calls-requires c κs = search needs
-
-same-length : tie.Need-same-length
-same-length c = search needs
-
 returns-2 : tie.Need-returns-2
-unfolding finishOf stepBits callsIn sessionBits
+unfolding finishOf callsIn
 returns-2 c =
-    let at = c .before .before .before .before .before .before .before .before .before .before .before in
-    let a = at .args in
-    let no = sym (c .before .before .before .before .before .before .before .before .before .finish-refusal .ensures) ∙ c .before .before .before .before .before .before .before .before .if1 .left in
-    let f = ended (sessionBits (a .self)) (length (now (a .room))) no in
-    let tag = c .before .before .before .before .before .before .before .tag-block in
-    let size = c .before .before .before .before .before .before .bytes-for in
-    let room = room-is (a .self) (tag .result) (now (a .room)) _ (size .result) (blocks at .0) (blocks at .1) (f .stands .short) (search needs) (tag .ensures) (size .ensures) (c .before .before .before .before .put .ensures) in
-    hit _ _ _ _ (eq-eqb _ 0 no) (λ i. ((Made (c .calls .ensures i), c .before .closed-session .ensures i), room i))
+    let put = c .before .before .before .before .before in
+    let made = put .before .before .before in
+    let at = made .before .before in
+    let start = at .before .before .before in
+    let a = start .args in
+    let total = a .self .total in
+    let f = goes at in
+    let room = room-is (a .self) (blocks start .0) (blocks start .1) (f .stands .short) (made .tag-block .result) (a .room .now) _ (put .before .before .bytes-for .result) (search needs) (made .tag-block .ensures) (put .before .before .bytes-for .ensures) (put .put .ensures) in
+    let calls = c .calls .ensures ∙ ap (λ (S : Settings). blockCount (methodAt (S .padding)) (cipherAt 1 .n) total + row (algorithmAt (S .algorithm)) .further) (c .before .of .ensures) in
+    hit _ _ _ _ (eq-eqb _ 0 (sym (at .before .finish-refusal .ensures) ∙ at .if1 .left)) (λ i. (record { answer = Made (calls i); session = c .before .before .closed-session .ensures i }, room i))
 
 pub finish-spec : {M : Type 1} → statement M
 finish-spec =
     tie.close
-    (tie.spec
-    finish-refusal-requires
-    returns
-    tag-block-requires
-    bytes-for-requires
-    put-requires
-    closed-session-requires
-    calls-requires
-    same-length
-    returns-2)
+    (tie.spec (λ c κs. search needs) returns (λ c κs. search needs) (λ c κs. search needs) put-requires (λ c κs. search needs)
+    (λ c κs. search needs) (λ c κs. search needs) (λ c. search needs) returns-2)

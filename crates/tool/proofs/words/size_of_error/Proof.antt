@@ -13,17 +13,11 @@ use mir.ValLaws.{toZ-ofZ}
 use Rattle.tool.proofs.words.size_of_error.Statement.{statement}
 use Rattle.tool.proofs.words.size_of_error.Tie as tie
 
-returns : tie.Need-returns
-returns c = search needs
-
 not-negative : (z : ℤ) → ltZ z (pos 0) ≡ false → T (nonNeg z)
 not-negative z e = yes-nonNeg {z = z} (ltZ-no {a = z} {b = pos 0} (subst (λ (b : Bool). T (not b)) (sym e) tt))
 
 cast-result : tie.Need-cast-result
 cast-result c = (not-negative (toZ w32 (ofZ w32 (c .before .args .reason))) (c .if1 .left), subst (λ (z : ℤ). Fits w64 (natAbs z)) (sym (toZ-ofZ w32 (c .before .args .reason) (c .before .fits .reason))) (record { fits = lt-of-le-of-lt (natAbs-le (c .before .args .reason) (c .before .fits .reason .sfits)) (lit< tt) }))
 
-returns-2 : tie.Need-returns-2
-returns-2 c = search needs
-
 pub size-of-error-spec : {M : Type 1} → statement M
-size-of-error-spec = tie.close (tie.spec returns cast-result returns-2)
+size-of-error-spec = tie.close (tie.spec (λ c. search needs) cast-result (λ c. search needs))

@@ -1,0 +1,2 @@
+pub mod GivenKeys
+pub mod Unique

@@ -1,0 +1,24 @@
+-- Refusals 4 to 6 of document 01, by the algorithm's row: a test for each fault, in the words of its column.
+-- Assumes nothing.
+use mathlib.Core.Bool.{Bool, _&&_, _||_, not}
+use Prim.Native.Nat.{ℕ}
+use lib.Dec.{eqb}
+use Rattle.bits.specs.Choice.{pick}
+use Rattle.bits.specs.Str.{sameB}
+use Rattle.mac.specs.declared.Row.{Row}
+use Rattle.mac.specs.Algorithm.{algorithmAt, row, Keys}
+
+-- 4: key bytes not 16 (one key) or 32 (K, then K′)
+unfoldable pub keyBytes : ℕ → ℕ
+keyBytes a = pick (row (algorithmAt a) .two) 32 16
+
+unfoldable pub keyBytesWrong : ℕ → ℕ → Bool
+keyBytesWrong a n = not (eqb n (keyBytes a))
+
+-- 5: algorithm 2, 4 or 6 with K = K′, or 4 with K = K″
+unfoldable pub keysSame : ℕ → Keys → Bool
+keysSame a K = (row (algorithmAt a) .differ && sameB (K .k) (K .k′)) || (row (algorithmAt a) .third && sameB (K .k) (K .k″))
+
+-- 6: algorithm 4 with K′ = K″
+unfoldable pub keysWeak : ℕ → Keys → Bool
+keysWeak a K = row (algorithmAt a) .third && sameB (K .k′) (K .k″)

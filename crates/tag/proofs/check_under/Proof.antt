@@ -1,0 +1,84 @@
+-- `check_under` meets its contract: the message's refusal (`check-refused-under`), or the comparison with the tag's bytes (`checked-is`).
+-- Assumes nothing.
+use mathlib.Core.Path.{_≡_, sym, ap, _∙_}
+use mathlib.Core.Bool.{Bool, true, false}
+use Prim.Native.Nat.{ℕ, _≤_}
+use native.Mathlib.Omega.{arith}
+use lib.ListN.{length}
+use lib.Seq.{length-take-le}
+use Rattle.bits.specs.Choice.{pick, firstOf}
+use Rattle.mac.specs.Tag.{bytesFor}
+use Rattle.keys.specs.Given.{keyBits}
+use Rattle.settings.specs.declared.Outcome.the-variants.{Yes, No}
+use Rattle.message.specs.Faults.{messageFaults, tagLengthWrong}
+use Rattle.message.proofs.Taken.{taken}
+use Rattle.tag.specs.OneCall.{checkUnder}
+use Rattle.tag.proofs.Making.{check-refused-under, checked-is}
+use borrow.Author.Needs.{needs}
+use Rattle.tag.proofs.check_under.Statement.{statement}
+use Rattle.tag.proofs.check_under.Tie as tie
+
+-- the refusal, with the test of the tag's length told
+refusal : (c : tie.After-refusal) → let a = c .before .before .before .before .args in c .refusal .result ≡ firstOf (messageFaults (a .s) (length (a .message .now)) (a .bits) (tagLengthWrong (a .s .m) (length (a .offered .now))))
+refusal c =
+    let a = c .before .before .before .before .args in
+    c .refusal .ensures ∙ ap (λ (b : Bool). firstOf (messageFaults (a .s) (length (a .message .now)) (a .bits) b)) (c .before .tag-length-wrong .ensures)
+
+returns : tie.Need-returns
+returns c =
+    let at = c .before in
+    let a = at .before .before .before .before .args in
+    check-refused-under (a .s) (keyBits (a .keys)) (a .message .now) (a .bits) (at .refusal .result) (a .offered .now) (refusal at) (c .if1 .taken)
+
+tag-block-requires : tie.Need-tag-block-requires
+tag-block-requires c κs =
+    let at = c .before in
+    let a = at .before .before .before .before .args in
+    let t = taken (a .s) (length (a .message .now)) (a .bits) _ (sym (refusal at) ∙ c .if1 .left) in
+    (t .few, t .long)
+
+-- the tag's bytes are bytes of the block
+short : (c : tie.After-bytes-for) → c .bytes-for .result ≤ 16
+unfolding bytesFor
+short c =
+    let made = c .before .before in
+    omega (arith, made .before .before .before .before .before .before .pre .1, c .bytes-for .ensures)
+
+array-share-prefix-tag : tie.Need-array-share-prefix-tag
+array-share-prefix-tag c = let l : length (c .before .before .tag-block .result) ≡ 16 = search needs in omega (arith, short c)
+
+slice-aggregate-equal-bytes : tie.Need-slice-aggregate-equal-bytes
+slice-aggregate-equal-bytes c =
+    let tag = c .before .before .before .tag-block .result in
+    let l : length tag ≡ 16 = search needs in
+    sym (length-take-le (c .before .bytes-for .result) tag (omega (arith, short (c .before))))
+
+-- yes or no, by the comparison
+answer : (c : tie.After-equal-bytes)
+    → let far = c .before .before .before .before .before .before in let a = far .before .before .before .before .args in
+    let calls = c .before .before .before .calls .result in
+    pick (c .equal-bytes .result) (Yes calls) (No calls) ≡ checkUnder (a .s) (keyBits (a .keys)) (a .message .now) (a .bits) (a .offered .now)
+answer c =
+    let made = c .before .before .before .before in
+    let at = made .before .before in
+    let start = at .before .before .before .before in
+    let a = start .args in
+    checked-is (a .s) (keyBits (a .keys)) (a .message .now) (a .bits) (at .refusal .result) _ _ _ (made .before .if1 .left) (c .before .before .bytes-for .ensures) (start .pre .1) (search needs) (made .tag-block .ensures)
+    (c .before .before .before .calls .ensures) (a .offered .now) _ (refusal at) (c .equal-bytes .ensures)
+
+chosen : (b d : Bool) (n : ℕ) → b ≡ d → pick d (Yes n) (No n) ≡ pick b (Yes n) (No n)
+chosen b d n e = ap (λ (x : Bool). pick x (Yes n) (No n)) (sym e)
+
+returns-2 : tie.Need-returns-2
+unfolding pick
+returns-2 c = chosen _ true _ (c .if2 .taken) ∙ answer (c .before)
+
+returns-3 : tie.Need-returns-3
+unfolding pick
+returns-3 c = chosen _ false _ (c .if2 .left) ∙ answer (c .before)
+
+pub check-under-spec : {M : Type 1} → statement M
+check-under-spec =
+    tie.close
+    (tie.spec (λ c κs. search needs) (λ c κs. search needs) returns tag-block-requires (λ c κs. search needs)
+    (λ c κs. search needs) array-share-prefix-tag slice-aggregate-equal-bytes (λ c κs. search needs) returns-2 returns-3)
