@@ -12,6 +12,9 @@
  * bits, and spare bits of the last byte have no influence. A tag is m bits in (m + 7) / 8 bytes, filled from the left, with zeros
  * in the spare bits.
  *
+ * Agreements. What was agreed is one struct: the algorithm, the padding and m, the tag's number of bits. Any numbers may stand in
+ * it; all but those of this table are refused.
+ *
  *   algorithm     padding   key bytes       m
  *   1             1 to 3    16              1 to 128
  *   2, 3, 4, 6    1 to 3    32, K then K'   1 to 128
@@ -68,23 +71,28 @@ typedef struct slipseal_answer {
     uint64_t calls;
 } slipseal_answer;
 
+/* What was agreed. It goes by value, before the keys. */
+typedef struct slipseal_agreement {
+    uint64_t algorithm; /* 1 to 8 */
+    uint64_t padding;   /* 1 to 4 */
+    uint64_t m;         /* the tag's number of bits, 1 to 128 */
+} slipseal_agreement;
+
 /* A session's record. It goes into each call by value and the next one comes back; hand it on unaltered. Any content is answered.
  * A record counts as closed where
  *   - it is neither in phase 1 with part 0 and total % 8 = 0, nor in phase 2 with part 1 to 7 and total % 8 = part;
- *   - a start would refuse its settings or keys;
+ *   - a start would refuse its agreement or keys;
  *   - its total is over 8388608, or under padding 3 its declared length is, or its total is over its declared length;
  *   - a bit of held past the bits that wait there is set. */
 typedef struct slipseal_session {
-    uint64_t phase;     /* 0 closed, 1 open at a byte edge, 2 open after a part byte */
-    uint64_t part;      /* the bits of the part byte, 1 to 7, in phase 2; else 0 */
-    uint64_t algorithm; /* the settings, as they were given to the start */
-    uint64_t padding;
-    uint64_t m;
-    uint64_t declared;  /* under padding 3 the declared number of bits; else 0 after a start, and not read */
-    uint64_t total;     /* the bits so far */
-    uint8_t keys[32];   /* K, then K'; zeros after a start, and not read, where the algorithm takes one key */
-    uint8_t chain[16];  /* the chain value */
-    uint8_t held[16];   /* the waiting block; no bits while total is 0, else (total - 1) % 128 + 1 */
+    uint64_t phase;               /* 0 closed, 1 open at a byte edge, 2 open after a part byte */
+    uint64_t part;                /* the bits of the part byte, 1 to 7, in phase 2; else 0 */
+    slipseal_agreement agreement; /* as it was given to the start */
+    uint64_t declared;            /* under padding 3 the declared number of bits; else 0 after a start, and not read */
+    uint64_t total;               /* the bits so far */
+    uint8_t keys[32];             /* K, then K'; zeros after a start, and not read, where the algorithm takes one key */
+    uint8_t chain[16];            /* the chain value */
+    uint8_t held[16];             /* the waiting block; no bits while total is 0, else (total - 1) % 128 + 1 */
 } slipseal_session;
 
 /* What a session's call answers, and the record for the next call. */
@@ -105,32 +113,32 @@ typedef struct slipseal_slip {
     uint64_t lot_len;
 } slipseal_slip;
 
-/* Makes the tag of a message. Refusals: 1 to 10, rising; 10 where tag_len is under (m + 7) / 8. Otherwise the tag is written into
- * the first (m + 7) / 8 bytes at tag, the others stay, and the answer has number 0, yes 1 and the calls. */
-slipseal_answer slipseal_make(size_t algorithm, size_t padding, size_t m, const uint8_t *keys, size_t keys_len,
-                              const uint8_t *message, size_t message_len, size_t bits, uint8_t *tag, size_t tag_len);
+/* Makes the tag of a message. Refusals: 1 to 10, rising; 10 where tag_len is under (m + 7) / 8, with the agreement's m. Otherwise
+ * the tag is written into the first (m + 7) / 8 bytes at tag, the others stay, and the answer has number 0, yes 1 and the calls. */
+slipseal_answer slipseal_make(slipseal_agreement agreement, const uint8_t *keys, size_t keys_len, const uint8_t *message,
+                              size_t message_len, size_t bits, uint8_t *tag, size_t tag_len);
 
 /* Checks the tag of a message. Refusals: 1 to 10, rising; 10 where tag_len is not (m + 7) / 8. Otherwise number is 0, yes is 1
  * where the tag is the message's and 0 where it is not (a set spare bit too), and either way the calls are reported. */
-slipseal_answer slipseal_check(size_t algorithm, size_t padding, size_t m, const uint8_t *keys, size_t keys_len,
-                               const uint8_t *message, size_t message_len, size_t bits, const uint8_t *tag, size_t tag_len);
+slipseal_answer slipseal_check(slipseal_agreement agreement, const uint8_t *keys, size_t keys_len, const uint8_t *message,
+                               size_t message_len, size_t bits, const uint8_t *tag, size_t tag_len);
 
 /* Starts a session. declared is the message's number of bits; it is read under padding 3 only. Refusals: 1 to 6, rising, then 8
  * where the declared length is over 8388608. A refused start hands back a closed record of zeros. Otherwise the answer is all
  * zeros and the record is open. */
-slipseal_step slipseal_start(size_t algorithm, size_t padding, size_t m, const uint8_t *keys, size_t keys_len, size_t declared);
+slipseal_step slipseal_start(slipseal_agreement agreement, const uint8_t *keys, size_t keys_len, size_t declared);
 
 /* Gives a session the next bits of the message; no bits are allowed. Only the last bits given may end within a byte. Refusals, in
  * this order: 11 where the session is closed, or bits are given after a part byte; 7; 8 where the message would pass 8388608 bits;
  * 12 where under padding 3 it would pass the declared length. A refusal hands back the very record that came. Otherwise the answer
  * is all zeros and the record is open. */
-slipseal_step slipseal_piece(slipseal_session s, const uint8_t *bytes, size_t bytes_len, size_t bits);
+slipseal_step slipseal_piece(slipseal_session session, const uint8_t *bytes, size_t bytes_len, size_t bits);
 
 /* Ends a session. Refusals, in this order: 11 where the session is closed; 12 where under padding 3 fewer bits came than declared;
  * 9; 10 where tag_len is under (m + 7) / 8. A refusal hands back the very record that came, so that more bits or more room may
  * follow. Otherwise the tag is written as by slipseal_make, the answer has number 0, yes 1 and all the calls since the start, and
  * the record is closed and zero throughout. */
-slipseal_step slipseal_finish(slipseal_session s, uint8_t *tag, size_t tag_len);
+slipseal_step slipseal_finish(slipseal_session session, uint8_t *tag, size_t tag_len);
 
 /* Reads a lot slip under keys. Its seal names the algorithm, padding and m, and covers all bytes before field 7F, so not these
  * three. Refusals, in this order: at each of the fields 01, 02, 03 and 7F, 20 for under 3 bytes left, 21 for another tag, 22 for a

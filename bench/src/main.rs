@@ -10,6 +10,7 @@ mod work;
 
 use peer::Peer;
 use reference::{hex, unhex};
+use slipseal::Agreement;
 use std::fmt::Debug;
 use std::process::exit;
 use work::Tagged;
@@ -27,15 +28,9 @@ fn agree<T: PartialEq + Debug>(what: &str, answer: T, expected: T) {
 }
 
 /// The tag on which library, baseline and peers agree. Peers go with algorithm 5 only.
-fn agree_on_make(
-    what: &str,
-    (algorithm, padding): (usize, usize),
-    key: &[u8],
-    message: &[u8],
-    peers: &[&Peer],
-) -> Tagged {
-    let tagged = work::baseline_make(algorithm, padding, key, message);
-    agree(what, work::library_make(algorithm, padding, key, message), tagged);
+fn agree_on_make(what: &str, agreement: Agreement, key: &[u8], message: &[u8], peers: &[&Peer]) -> Tagged {
+    let tagged = work::baseline_make(agreement, key, message);
+    agree(what, work::library_make(agreement, key, message), tagged);
     for peer in peers {
         agree(&format!("{what}, {}", peer.name), peer.cmac(key, message), Some(tagged.0));
     }
@@ -64,12 +59,13 @@ fn main() {
     let (openssl, botan, libgcrypt) = (openssl::find(), peer::built("botan.so"), peer::built("gcrypt.so"));
     let peers: Vec<&Peer> = [&openssl, &botan, &libgcrypt].into_iter().flatten().collect();
 
-    let tagged = agree_on_make("make, algorithm 1", (1, 1), key, message, &[]);
+    let (one, five) = (work::agreed(1, 1), work::agreed(5, 4));
+    let tagged = agree_on_make("make, algorithm 1", one, key, message, &[]);
     agree("session", work::library_session(key, message), tagged);
     agree("the baseline's session", work::baseline_session(key, message), tagged);
-    let cmac = agree_on_make("make, algorithm 5", (5, 4), key, message, &peers);
-    agree_on_make("make on 16 bytes, algorithm 1", (1, 1), key, short, &[]);
-    agree_on_make("make on 16 bytes, algorithm 5", (5, 4), key, short, &peers);
+    let cmac = agree_on_make("make, algorithm 5", five, key, message, &peers);
+    agree_on_make("make on 16 bytes, algorithm 1", one, key, short, &[]);
+    agree_on_make("make on 16 bytes, algorithm 5", five, key, short, &peers);
     agree_on_slip("slip", slip, key, 0);
     agree_on_slip("slip with a wrong seal", &wrong, key, 30);
     agree_on_slip("slip cut short", cut, key, 20);
@@ -78,12 +74,12 @@ fn main() {
 
     let openssl_only: Vec<&Peer> = openssl.iter().collect();
     let mut lines = [
-        work::make_line("make on 1 MiB, algorithm 1, MiB a second", 1, (1, 1), key, message, &[]),
+        work::make_line("make on 1 MiB, algorithm 1, MiB a second", 1, one, key, message, &[]),
         work::session_line("session of 64 KiB pieces over 1 MiB, algorithm 1, MiB a second", key, message),
         work::make_line(
             "make on 1 MiB, algorithm 5 (CMAC), MiB a second",
             1,
-            (5, 4),
+            five,
             key,
             message,
             &openssl_only,
@@ -91,11 +87,11 @@ fn main() {
         work::slip_line("slips accepted a second", slip, key),
         work::slip_line("slips refused a second, one bit of the seal wrong", &wrong, key),
         work::slip_line("slips refused a second, the last byte cut off", cut, key),
-        work::make_line("tags of 16 bytes a second, algorithm 1", work::SHORT_CALLS, (1, 1), key, short, &[]),
+        work::make_line("tags of 16 bytes a second, algorithm 1", work::SHORT_CALLS, one, key, short, &[]),
         work::make_line(
             "tags of 16 bytes a second, algorithm 5 (CMAC), beside every peer",
             work::SHORT_CALLS,
-            (5, 4),
+            five,
             key,
             short,
             &peers,
@@ -103,7 +99,7 @@ fn main() {
         work::make_line(
             "tags of 1 MiB, algorithm 5 (CMAC), beside every peer, MiB a second",
             1,
-            (5, 4),
+            five,
             key,
             message,
             &peers,

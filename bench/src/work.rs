@@ -4,7 +4,7 @@
 use crate::measure::{Line, Way};
 use crate::peer::Peer;
 use reference::{session, slip};
-use slipseal::raw;
+use slipseal::{raw, Agreement};
 use std::hint::black_box;
 
 pub const MESSAGE_BYTES: usize = 1 << 20;
@@ -16,21 +16,31 @@ pub const SHORT_CALLS: usize = 1000;
 /// A tag of 128 bits; number, yes and calls.
 pub type Tagged = ([u8; 16], [u64; 3]);
 
-pub fn library_make(algorithm: usize, padding: usize, key: &[u8], message: &[u8]) -> Tagged {
+/// What is agreed in all of it, but for slips.
+pub fn agreed(algorithm: u64, padding: u64) -> Agreement {
+    Agreement { algorithm, padding, m: 128 }
+}
+
+/// The same for the baseline.
+fn of_baseline(agreement: Agreement) -> reference::Agreement {
+    let Agreement { algorithm, padding, m } = agreement;
+    reference::Agreement { algorithm, padding, m }
+}
+
+pub fn library_make(agreement: Agreement, key: &[u8], message: &[u8]) -> Tagged {
     let mut tag = [0; 16];
-    let answer = raw::make(algorithm, padding, 128, key, message, 8 * message.len(), &mut tag);
+    let answer = raw::make(agreement, key, message, 8 * message.len(), &mut tag);
     (tag, [answer.number, answer.yes, answer.calls])
 }
 
-pub fn baseline_make(algorithm: usize, padding: usize, key: &[u8], message: &[u8]) -> Tagged {
+pub fn baseline_make(agreement: Agreement, key: &[u8], message: &[u8]) -> Tagged {
     let mut tag = [0; 16];
-    let (algorithm, padding, bits) = (algorithm as u64, padding as u64, 8 * message.len() as u64);
-    let answer = reference::make(algorithm, padding, 128, key, message, bits, &mut tag);
+    let answer = reference::make(of_baseline(agreement), key, message, 8 * message.len() as u64, &mut tag);
     (tag, [answer.number, answer.yes, answer.calls])
 }
 
 pub fn library_session(key: &[u8], message: &[u8]) -> Tagged {
-    let mut step = raw::start(1, 1, 128, key, 0);
+    let mut step = raw::start(agreed(1, 1), key, 0);
     for piece in message.chunks(PIECE_BYTES) {
         step = raw::piece(step.session, piece, 8 * piece.len());
     }
@@ -40,7 +50,7 @@ pub fn library_session(key: &[u8], message: &[u8]) -> Tagged {
 }
 
 pub fn baseline_session(key: &[u8], message: &[u8]) -> Tagged {
-    let (mut record, _) = session::start(1, 1, 128, key, 0);
+    let (mut record, _) = session::start(of_baseline(agreed(1, 1)), key, 0);
     for piece in message.chunks(PIECE_BYTES) {
         (record, _) = session::piece(record, piece, 8 * piece.len() as u64);
     }
@@ -83,13 +93,13 @@ fn repeated<T>(calls: usize, mut call: impl FnMut() -> T) -> impl FnMut() {
 pub fn make_line<'a>(
     what: &'static str,
     calls: usize,
-    (algorithm, padding): (usize, usize),
+    agreement: Agreement,
     key: &'a [u8],
     message: &'a [u8],
     peers: &[&'a Peer],
 ) -> Line<'a> {
-    let library = move || library_make(algorithm, padding, black_box(key), black_box(message));
-    let baseline = move || baseline_make(algorithm, padding, black_box(key), black_box(message));
+    let library = move || library_make(agreement, black_box(key), black_box(message));
+    let baseline = move || baseline_make(agreement, black_box(key), black_box(message));
     let mut line = line(what, calls, repeated(calls, library), repeated(calls, baseline));
     for &peer in peers {
         let cmac = move || peer.cmac(black_box(key), black_box(message));

@@ -27,6 +27,15 @@ static int is(slipseal_answer a, uint64_t number, uint64_t yes, uint64_t calls)
     return a.number == number && a.yes == yes && a.calls == calls;
 }
 
+static slipseal_agreement agreed(uint64_t algorithm, uint64_t padding, uint64_t m)
+{
+    slipseal_agreement agreement;
+    agreement.algorithm = algorithm;
+    agreement.padding = padding;
+    agreement.m = m;
+    return agreement;
+}
+
 static int filled(const uint8_t *bytes, size_t length, uint8_t byte)
 {
     size_t i;
@@ -46,7 +55,11 @@ static int same(const slipseal_session *a, const slipseal_session *b)
 static void layout(void)
 {
     expect(sizeof(slipseal_answer) == 24, "size of an answer");
+    expect(sizeof(slipseal_agreement) == 24, "size of an agreement");
+    expect(offsetof(slipseal_agreement, padding) == 8 && offsetof(slipseal_agreement, m) == 16, "order in an agreement");
     expect(sizeof(slipseal_session) == 120, "size of a session");
+    expect(offsetof(slipseal_session, agreement) == 16, "place of the agreement");
+    expect(offsetof(slipseal_session, declared) == 40, "place of the declared length");
     expect(offsetof(slipseal_session, keys) == 56, "place of the keys");
     expect(offsetof(slipseal_session, held) == 104, "place of the waiting block");
     expect(sizeof(slipseal_step) == 144, "size of a step");
@@ -57,15 +70,30 @@ static void one_call(void)
 {
     uint8_t tag[20];
     memset(tag, 0xAA, sizeof tag);
-    expect(is(slipseal_make(7, 4, 64, key, 16, message, 32, 256, tag, 20), 3, 0, 0), "make refused");
+    expect(is(slipseal_make(agreed(7, 4, 64), key, 16, message, 32, 256, tag, 20), 3, 0, 0), "make refused");
     expect(filled(tag, 20, 0xAA), "a refusal writes nothing");
-    expect(is(slipseal_make(5, 4, 64, key, 16, message, 32, 256, tag, 20), 0, 1, 3), "make accepted");
+    expect(is(slipseal_make(agreed(5, 4, 64), key, 16, message, 32, 256, tag, 20), 0, 1, 3), "make accepted");
     expect(memcmp(tag, printed, 8) == 0, "the printed tag");
     expect(filled(tag + 8, 12, 0xAA), "bytes past the tag stay");
-    expect(is(slipseal_check(5, 4, 64, key, 16, message, 32, 256, tag, 8), 0, 1, 3), "check says yes");
-    expect(is(slipseal_check(5, 4, 64, key, 16, message, 32, 255, tag, 8), 0, 0, 3), "check says no");
-    expect(is(slipseal_check(5, 4, 64, key, 16, message, 32, 256, tag, 20), 10, 0, 0), "check refused");
-    expect(is(slipseal_make(1, 1, 1, key, 16, message, 0, 0, tag, 0), 10, 0, 0), "empty message, empty room");
+    expect(is(slipseal_check(agreed(5, 4, 64), key, 16, message, 32, 256, tag, 8), 0, 1, 3), "check says yes");
+    expect(is(slipseal_check(agreed(5, 4, 64), key, 16, message, 32, 255, tag, 8), 0, 0, 3), "check says no");
+    expect(is(slipseal_check(agreed(5, 4, 64), key, 16, message, 32, 256, tag, 20), 10, 0, 0), "check refused");
+    expect(is(slipseal_make(agreed(1, 1, 1), key, 16, message, 0, 0, tag, 0), 10, 0, 0), "empty message, empty room");
+}
+
+/* Each number of an agreement arrives whole and in its place: what a narrower type would cut to a good one is refused. */
+static void agreement(void)
+{
+    const uint64_t far = (uint64_t)1 << 32;
+    const slipseal_agreement wrong[3] = {agreed(far + 5, 4, 64), agreed(5, far + 4, 64), agreed(5, 4, far + 64)};
+    uint8_t tag[16] = {0};
+    int i;
+    for (i = 0; i < 3; i++) {
+        expect(is(slipseal_make(wrong[i], key, 16, message, 32, 256, tag, 16), i + 1, 0, 0), "make of a far number");
+        expect(is(slipseal_check(wrong[i], key, 16, message, 32, 256, tag, 8), i + 1, 0, 0), "check of a far number");
+        expect(is(slipseal_start(wrong[i], key, 16, 0).answer, i + 1, 0, 0), "start of a far number");
+    }
+    expect(filled(tag, 16, 0), "a refusal writes nothing");
 }
 
 static void session(void)
@@ -76,11 +104,13 @@ static void session(void)
     memset(tag, 0xAA, sizeof tag);
     memset(&zeros, 0, sizeof zeros);
 
-    step = slipseal_start(5, 4, 129, key, 16, 0);
+    step = slipseal_start(agreed(5, 4, 129), key, 16, 0);
     expect(is(step.answer, 3, 0, 0) && same(&step.session, &zeros), "a refused start hands back a closed record of zeros");
-    step = slipseal_start(5, 4, 64, key, 16, 0);
+    step = slipseal_start(agreed(5, 4, 64), key, 16, 0);
     expect(is(step.answer, 0, 0, 0) && step.session.phase == 1, "start accepted");
     expect(memcmp(step.session.keys, key, 16) == 0 && filled(step.session.keys + 16, 16, 0), "the record's keys");
+    expect(step.session.agreement.algorithm == 5 && step.session.agreement.padding == 4 && step.session.agreement.m == 64,
+           "the record's agreement");
     step = slipseal_piece(step.session, message, 20, 160);
     expect(is(step.answer, 0, 0, 0) && step.session.total == 160, "piece accepted");
     next = slipseal_piece(step.session, message, 20, 1);
@@ -98,7 +128,7 @@ static void session(void)
 
 static void part_byte(void)
 {
-    slipseal_step step = slipseal_start(1, 2, 64, key, 16, 0), next;
+    slipseal_step step = slipseal_start(agreed(1, 2, 64), key, 16, 0), next;
     step = slipseal_piece(step.session, (const uint8_t *)"\xFF", 1, 3);
     expect(step.session.phase == 2 && step.session.part == 3 && step.session.held[0] == 0xE0, "three bits wait");
     next = slipseal_piece(step.session, message, 1, 8);
@@ -118,6 +148,50 @@ static void forged(void)
     expect(is(step.answer, 11, 0, 0) && same(&step.session, &record) && filled(tag, 16, 0), "a forged record in a finish");
 }
 
+/* A record that holds the byte 61, with a chain value and a second key from nowhere. */
+static slipseal_session record_of(slipseal_agreement agreement, uint64_t declared, uint64_t total)
+{
+    slipseal_session record;
+    memset(&record, 0, sizeof record);
+    record.phase = 1;
+    record.agreement = agreement;
+    record.declared = declared;
+    record.total = total;
+    memcpy(record.keys, key, 16);
+    memset(record.keys + 16, 0xC3, 16);
+    memset(record.chain, 0x5A, 16);
+    record.held[0] = 'a';
+    return record;
+}
+
+static void piece_hands_back(slipseal_session record, size_t bytes, size_t bits, uint64_t number)
+{
+    slipseal_step step = slipseal_piece(record, message, bytes, bits);
+    expect(is(step.answer, number, 0, 0) && same(&step.session, &record), "a refused piece hands back the very record");
+}
+
+static void finish_hands_back(slipseal_session record, size_t room, uint64_t number)
+{
+    uint8_t tag[8] = {0};
+    slipseal_step step = slipseal_finish(record, tag, room);
+    expect(is(step.answer, number, 0, 0) && same(&step.session, &record), "a refused finish hands back the very record");
+    expect(filled(tag, 8, 0), "a refusal writes nothing");
+}
+
+/* Every refusal hands back the record byte for byte, with whatever stands in what is not read. */
+static void handed_back(void)
+{
+    const uint64_t any = UINT64_MAX;
+    piece_hands_back(record_of(agreed(1, 1, 64), any, 8), 2, 8, 7);
+    piece_hands_back(record_of(agreed(1, 1, 64), any, 8388600), 2, 9, 8);
+    piece_hands_back(record_of(agreed(any, any, any), any, 8), 1, 8, 11);
+    piece_hands_back(record_of(agreed(1, 3, 64), 15, 8), 1, 8, 12);
+    finish_hands_back(record_of(agreed(4, 1, 64), any, 8), 8, 9);
+    finish_hands_back(record_of(agreed(1, 1, 64), any, 8), 7, 10);
+    finish_hands_back(record_of(agreed(any, any, any), any, 8), 8, 11);
+    finish_hands_back(record_of(agreed(1, 3, 64), 9, 8), 8, 12);
+}
+
 static void slip(void)
 {
     slipseal_slip none = slipseal_read(message, 32, key, 16), zeros;
@@ -130,9 +204,11 @@ int main(void)
 {
     layout();
     one_call();
+    agreement();
     session();
     part_byte();
     forged();
+    handed_back();
     slip();
     printf("c: %d tests, %d failed\n", tests, failures);
     return failures != 0;

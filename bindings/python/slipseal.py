@@ -6,6 +6,8 @@ into results. It loads the shared library that SLIPSEAL_LIB names, else the one 
 A message is bytes and a count of bits, the highest bit of a byte first; without a count all bits are meant. The bytes are exactly
 as many as hold the bits, and spare bits of the last byte have no influence.
 
+What was agreed on how a tag is made is an Agreement: algorithm, padding and m, the tag's number of bits.
+
     algorithm     padding   key bytes       m
     1             1 to 3    16              1 to 128
     2, 3, 4, 6    1 to 3    32, K then K'   1 to 128
@@ -21,7 +23,7 @@ import operator
 import os
 from typing import NamedTuple, Optional, Union
 
-__all__ = ["Checked", "Made", "Refused", "Session", "Slip", "check", "make", "read_slip"]
+__all__ = ["Agreement", "Checked", "Made", "Refused", "Session", "Slip", "check", "make", "read_slip"]
 
 Bytes = Union[bytes, bytearray, memoryview]
 
@@ -59,6 +61,14 @@ class Refused(Exception):
         return "refused {}: {}".format(self.number, self.words)
 
 
+class Agreement(NamedTuple):
+    """What was agreed. Any numbers may stand here; the calls refuse those that are not allowed, with 1, 2 and 3."""
+
+    algorithm: int
+    padding: int
+    m: int
+
+
 class Made(NamedTuple):
     """A tag that was made, in (m + 7) // 8 bytes, and the number of cipher calls."""
 
@@ -88,42 +98,41 @@ class Slip(NamedTuple):
     calls: int
 
 
-def make(algorithm: int, padding: int, m: int, keys: Bytes, message: Bytes, bits: Optional[int] = None) -> Made:
+def make(agreement: Agreement, keys: Bytes, message: Bytes, bits: Optional[int] = None) -> Made:
     """Makes the tag of a message. Refused with the first that applies of 1 to 9.
 
     >>> key = bytes.fromhex("0123456789ABCDEFFEDCBA9876543210")
-    >>> made = make(5, 4, 64, key, b"This is the test message for mac")
+    >>> made = make(Agreement(5, 4, 64), key, b"This is the test message for mac")
     >>> made.tag.hex(), made.calls
     ('692c437100f3b5ee', 3)
-    >>> make(1, 1, 64, key, bytes([0xFF]), bits=1) == make(1, 1, 64, key, bytes([0x80]), bits=1)
+    >>> plain = Agreement(algorithm=1, padding=1, m=64)
+    >>> make(plain, key, bytes([0xFF]), bits=1) == make(plain, key, bytes([0x80]), bits=1)
     True
-    >>> make(7, 4, 64, key, b"")
+    >>> make(Agreement(7, 4, 64), key, b"")
     Traceback (most recent call last):
     slipseal.Refused: refused 3: the tag's number of bits is not allowed for the algorithm
     """
     room = _room()
     answer = _library.slipseal_make(
-        *_numbers(algorithm, padding, m), *_slice(keys), *_slice_and_bits(message, bits), room, len(room)
+        _agreed(agreement), *_slice(keys), *_slice_and_bits(message, bits), room, len(room)
     )
     _accept(answer.number)
-    return _made(room, m, answer)
+    return _made(room, agreement.m, answer)
 
 
-def check(
-    algorithm: int, padding: int, m: int, keys: Bytes, message: Bytes, tag: Bytes, bits: Optional[int] = None
-) -> Checked:
+def check(agreement: Agreement, keys: Bytes, message: Bytes, tag: Bytes, bits: Optional[int] = None) -> Checked:
     """Checks the tag of a message. The answer is true or false; a wrong tag raises nothing. Refused with the first that applies
     of 1 to 10; 10 where the tag is not exactly (m + 7) // 8 bytes.
 
     >>> key = bytes.fromhex("0123456789ABCDEFFEDCBA9876543210")
-    >>> message = b"This is the test message for mac"
-    >>> check(5, 4, 64, key, message, bytes.fromhex("692c437100f3b5ee"))
+    >>> agreement, message = Agreement(5, 4, 64), b"This is the test message for mac"
+    >>> check(agreement, key, message, bytes.fromhex("692c437100f3b5ee"))
     Checked(yes=True, calls=3)
-    >>> bool(check(5, 4, 64, key, message, bytes(8)))
+    >>> bool(check(agreement, key, message, bytes(8)))
     False
     """
     answer = _library.slipseal_check(
-        *_numbers(algorithm, padding, m), *_slice(keys), *_slice_and_bits(message, bits), *_slice(tag)
+        _agreed(agreement), *_slice(keys), *_slice_and_bits(message, bits), *_slice(tag)
     )
     _accept(answer.number)
     return Checked(answer.yes == 1, answer.calls)
@@ -133,22 +142,23 @@ class Session:
     """A message that comes in pieces, cut anyhow; the tag is that of the whole. The session holds the keys. A good finish closes
     it, and a refusal leaves it as it was. Calls from several threads must not meet in one session.
 
-    >>> session = Session(1, 3, 128, bytes(16), declared=20)
+    >>> agreement = Agreement(1, 3, 128)
+    >>> session = Session(agreement, bytes(16), declared=20)
     >>> session.piece(b"a")
     >>> session.finish()
     Traceback (most recent call last):
     slipseal.Refused: refused 12: the message is not as long as was declared
     >>> session.piece(b"bc", bits=12)
-    >>> session.finish() == make(1, 3, 128, bytes(16), b"abc", bits=20)
+    >>> session.finish() == make(agreement, bytes(16), b"abc", bits=20)
     True
     >>> session.closed
     True
     """
 
-    def __init__(self, algorithm: int, padding: int, m: int, keys: Bytes, declared: int = 0) -> None:
+    def __init__(self, agreement: Agreement, keys: Bytes, declared: int = 0) -> None:
         """Starts. declared is the message's number of bits, read under padding 3 only. Refused with the first that applies of 1
         to 6, then 8 for the declared length."""
-        step = _library.slipseal_start(*_numbers(algorithm, padding, m), *_slice(keys), *_numbers(declared))
+        step = _library.slipseal_start(_agreed(agreement), *_slice(keys), *_numbers(declared))
         _accept(step.answer.number)
         self._record = step.session
 
@@ -166,7 +176,7 @@ class Session:
 
     def finish(self) -> Made:
         """Ends the session. Refused with the first that applies of 11, 12, 9; more bits may then follow."""
-        room, m = _room(), self._record.m
+        room, m = _room(), self._record.agreement.m
         step = _library.slipseal_finish(self._record, room, len(room))
         self._record = step.session
         _accept(step.answer.number)
@@ -235,10 +245,21 @@ class _Answer(ctypes.Structure):
     _fields_ = [(name, ctypes.c_uint64) for name in ("number", "yes", "calls")]
 
 
+class _Agreement(ctypes.Structure):
+    _fields_ = [(name, ctypes.c_uint64) for name in Agreement._fields]
+
+
 class _Record(ctypes.Structure):
     _fields_ = [
-        (name, ctypes.c_uint64) for name in ("phase", "part", "algorithm", "padding", "m", "declared", "total")
-    ] + [("keys", ctypes.c_uint8 * 32), ("chain", ctypes.c_uint8 * 16), ("held", ctypes.c_uint8 * 16)]
+        ("phase", ctypes.c_uint64),
+        ("part", ctypes.c_uint64),
+        ("agreement", _Agreement),
+        ("declared", ctypes.c_uint64),
+        ("total", ctypes.c_uint64),
+        ("keys", ctypes.c_uint8 * 32),
+        ("chain", ctypes.c_uint8 * 16),
+        ("held", ctypes.c_uint8 * 16),
+    ]
 
 
 class _Step(ctypes.Structure):
@@ -250,6 +271,10 @@ class _Slip(ctypes.Structure):
         (name, ctypes.c_uint64)
         for name in ("number", "year", "month", "day", "amount", "calls", "lot_at", "lot_len")
     ]
+
+
+def _agreed(agreement: Agreement) -> _Agreement:
+    return _Agreement(*_numbers(agreement.algorithm, agreement.padding, agreement.m))
 
 
 def _made(room: "ctypes.Array[ctypes.c_uint8]", m: int, answer: _Answer) -> Made:
@@ -267,9 +292,9 @@ def _loaded() -> ctypes.CDLL:
         raise ImportError(message) from error
     number, lent, room = ctypes.c_size_t, [ctypes.c_char_p, ctypes.c_size_t], [ctypes.POINTER(ctypes.c_uint8), ctypes.c_size_t]
     for name, arguments, result in (
-        ("make", [number] * 3 + lent + lent + [number] + room, _Answer),
-        ("check", [number] * 3 + lent + lent + [number] + lent, _Answer),
-        ("start", [number] * 3 + lent + [number], _Step),
+        ("make", [_Agreement] + lent + lent + [number] + room, _Answer),
+        ("check", [_Agreement] + lent + lent + [number] + lent, _Answer),
+        ("start", [_Agreement] + lent + [number], _Step),
         ("piece", [_Record] + lent + [number], _Step),
         ("finish", [_Record] + room, _Step),
         ("read", lent + lent, _Slip),

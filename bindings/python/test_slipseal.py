@@ -14,7 +14,7 @@ import sys
 import unittest
 
 import slipseal
-from slipseal import Refused, Session, check, make, read_slip
+from slipseal import Agreement, Refused, Session, check, make, read_slip
 
 ROOT = os.path.join(os.path.dirname(os.path.abspath(__file__)), "..", "..")
 MESSAGE = b"This is the test message for mac"
@@ -30,7 +30,7 @@ def text(*path):
 
 
 def annex_a():
-    """Settings, keys, message, tag and calls of each printed tag, and of each printed G as a tag of 128 bits. Algorithm 7 prints
+    """Agreement, keys, message, tag and calls of each printed tag, and of each printed G as a tag of 128 bits. Algorithm 7 prints
     64 bits, which are refused, so 63 of them are taken."""
     for line in text("bindings", "annex_a.txt").splitlines():
         if line.startswith("#"):
@@ -46,7 +46,18 @@ def annex_a():
         else:
             tags = {64: bytes.fromhex(tag), 128: bytes.fromhex(g)}
         for m, tag in tags.items():
-            yield (algorithm, padding, m), bytes.fromhex(keys), message, tag, calls
+            yield Agreement(algorithm, padding, m), bytes.fromhex(keys), message, tag, calls
+
+
+def forged(**fields):
+    """A session that has the byte 61, with other values in its record."""
+    session = Session(Agreement(1, 1, 64), KEY)
+    session.piece(b"a")
+    for name, value in fields.items():
+        part = session._record.agreement if name in Agreement._fields else session._record
+        kind = type(getattr(part, name))
+        setattr(part, name, kind(*value) if isinstance(value, tuple) else value)
+    return session
 
 
 class Case(unittest.TestCase):
@@ -61,19 +72,19 @@ class AnnexA(Case):
         self.assertEqual(len(list(annex_a())), 34 * 2 + 2)
 
     def test_one_call(self):
-        for settings, keys, message, tag, calls in annex_a():
-            self.assertEqual(make(*settings, keys, message), (tag, calls))
-            self.assertEqual(check(*settings, keys, message, tag), (True, calls))
+        for agreement, keys, message, tag, calls in annex_a():
+            self.assertEqual(make(agreement, keys, message), (tag, calls))
+            self.assertEqual(check(agreement, keys, message, tag), (True, calls))
             for place in range(8 * len(tag)):
                 other = bytearray(tag)
                 other[place // 8] ^= 0x80 >> place % 8
-                self.assertEqual(check(*settings, keys, message, other), (False, calls))
+                self.assertEqual(check(agreement, keys, message, other), (False, calls))
 
     def test_sessions_cut_at_every_byte(self):
-        for settings, keys, message, tag, calls in annex_a():
+        for agreement, keys, message, tag, calls in annex_a():
             cuts = [[message[:cut], message[cut:]] for cut in range(len(message) + 1)]
             for pieces in cuts + [[message[i : i + 1] for i in range(len(message))]]:
-                session = Session(*settings, keys, declared=8 * len(message))
+                session = Session(agreement, keys, declared=8 * len(message))
                 for piece in pieces:
                     session.piece(piece)
                 self.assertEqual(session.finish(), (tag, calls))
@@ -94,62 +105,66 @@ class OneCall(Case):
             (7, 4, 63, b"\xFF" * 16, 128, "6811AF7E097364E6", 1),
         ):
             keys = KEYS if algorithm in (2, 3, 4, 6) else KEY
-            self.assertEqual(make(algorithm, padding, m, keys, message, bits), (bytes.fromhex(tag), calls))
+            agreement = Agreement(algorithm, padding, m)
+            self.assertEqual(make(agreement, keys, message, bits), (bytes.fromhex(tag), calls))
 
     def test_r5_algorithm_3_with_the_same_key_twice(self):
         tag = bytes.fromhex("9054FCCFF72871FDAD5202C821DBEA05")
-        self.assertEqual(make(3, 1, 128, KEY + KEY, b"abc"), (tag, 3))
-        self.assertEqual(make(1, 1, 128, KEY, b"abc"), (tag, 1))
+        self.assertEqual(make(Agreement(3, 1, 128), KEY + KEY, b"abc"), (tag, 3))
+        self.assertEqual(make(Agreement(1, 1, 128), KEY, b"abc"), (tag, 1))
 
     def test_r7_the_longest_message(self):
         tag = bytes.fromhex("52E7B8DB5C984966E56E4943745D6392")
-        self.assertEqual(make(1, 1, 128, KEY, bytes(1048576)), (tag, 65536))
-        self.refused(8, make, 1, 1, 128, KEY, bytes(1048577), bits=8388609)
-        self.refused(7, make, 1, 1, 128, KEY, bytes(1048576), bits=8388609)
+        self.assertEqual(make(Agreement(1, 1, 128), KEY, bytes(1048576)), (tag, 65536))
+        self.refused(8, make, Agreement(1, 1, 128), KEY, bytes(1048577), bits=8388609)
+        self.refused(7, make, Agreement(1, 1, 128), KEY, bytes(1048576), bits=8388609)
 
     def test_refusals(self):
-        for number, *arguments in (
-            (1, 9, 9, 0, b"", b""),
-            (1, 2**64 - 1, 1, 64, KEY, b""),
-            (2, 1, 4, 0, b"", b""),
-            (3, 7, 4, 64, b"", b""),
-            (3, 1, 1, 2**32 + 64, KEY, b""),
-            (4, 1, 1, 64, KEYS, b""),
-            (5, 4, 1, 64, KEY + KEY, b"", 1),
-            (7, 4, 1, 64, KEYS, b"", 2**64 - 1),
-            (9, 4, 1, 64, KEYS, MESSAGE[:16], 128),
+        for number, agreed, keys, message, bits in (
+            (1, (9, 9, 0), b"", b"", 0),
+            (1, (2**64 - 1, 1, 64), KEY, b"", 0),
+            (1, (2**32 + 1, 1, 64), KEY, b"", 0),
+            (2, (1, 4, 0), b"", b"", 0),
+            (2, (1, 2**32 + 1, 64), KEY, b"", 0),
+            (3, (7, 4, 64), b"", b"", 0),
+            (3, (1, 1, 2**32 + 64), KEY, b"", 0),
+            (4, (1, 1, 64), KEYS, b"", 0),
+            (5, (4, 1, 64), KEY + KEY, b"", 1),
+            (7, (4, 1, 64), KEYS, b"", 2**64 - 1),
+            (9, (4, 1, 64), KEYS, MESSAGE[:16], 128),
         ):
-            self.refused(number, make, *arguments)
-            self.refused(number, check, *arguments[:5], b"", *arguments[5:])
+            self.refused(number, make, Agreement(*agreed), keys, message, bits)
+            self.refused(number, check, Agreement(*agreed), keys, message, b"", bits)
         for tag in (b"", bytes(1), bytes(3)):
-            self.refused(10, check, 1, 1, 12, KEY, b"", tag)
+            self.refused(10, check, Agreement(1, 1, 12), KEY, b"", tag)
 
     def test_a_no_is_false(self):
-        answer = check(1, 1, 64, KEY, MESSAGE, bytes(8))
+        answer = check(Agreement(1, 1, 64), KEY, MESSAGE, bytes(8))
         self.assertFalse(answer)
         self.assertEqual((answer.yes, answer.calls), (False, 2))
-        self.assertTrue(check(1, 1, 64, KEY, MESSAGE, bytes.fromhex("16E02904EFB765B7")))
+        self.assertTrue(check(Agreement(1, 1, 64), KEY, MESSAGE, bytes.fromhex("16E02904EFB765B7")))
 
 
 class Sessions(Case):
     def test_every_number_of_bits(self):
-        for settings, keys in (((1, 3, 63), KEY), ((3, 2, 63), KEYS), ((5, 4, 63), KEY), ((8, 4, 63), KEY)):
+        for algorithm, padding, keys in ((1, 3, KEY), (3, 2, KEYS), (5, 4, KEY), (8, 4, KEY)):
+            agreement = Agreement(algorithm, padding, 63)
             for bits in range(257):
                 message, cut = MESSAGE[: (bits + 7) // 8], bits // 16
-                session = Session(*settings, keys, declared=bits)
+                session = Session(agreement, keys, declared=bits)
                 session.piece(message[:cut])
                 session.piece(message[cut:], bits - 8 * cut)
                 session.piece(b"")
-                self.assertEqual(session.finish(), make(*settings, keys, message, bits))
+                self.assertEqual(session.finish(), make(agreement, keys, message, bits))
 
     def test_refused_starts(self):
-        self.refused(1, Session, 9, 9, 0, b"")
-        self.refused(4, Session, 1, 3, 64, b"", declared=8388609)
-        self.refused(8, Session, 1, 3, 64, KEY, declared=8388609)
-        Session(1, 2, 64, KEY, declared=8388609)
+        self.refused(1, Session, Agreement(9, 9, 0), b"")
+        self.refused(4, Session, Agreement(1, 3, 64), b"", declared=8388609)
+        self.refused(8, Session, Agreement(1, 3, 64), KEY, declared=8388609)
+        Session(Agreement(1, 2, 64), KEY, declared=8388609)
 
     def test_refused_pieces_leave_the_session(self):
-        session = Session(5, 4, 128, KEY)
+        session = Session(Agreement(5, 4, 128), KEY)
         session.piece(MESSAGE[:4])
         self.refused(7, session.piece, b"a", 0)
         self.refused(7, session.piece, b"", 2**64 - 1)
@@ -158,24 +173,24 @@ class Sessions(Case):
         self.refused(11, session.piece, b"a")
         self.refused(11, session.piece, b"", 8)
         self.refused(7, session.piece, b"a", 0)
-        self.assertEqual(session.finish(), make(5, 4, 128, KEY, MESSAGE[:6], 43))
+        self.assertEqual(session.finish(), make(Agreement(5, 4, 128), KEY, MESSAGE[:6], 43))
 
     def test_refused_finishes_leave_the_session(self):
-        session = Session(2, 3, 128, KEYS, declared=40)
+        session = Session(Agreement(2, 3, 128), KEYS, declared=40)
         session.piece(MESSAGE[:4])
         self.refused(12, session.piece, MESSAGE[4:6], 9)
         self.refused(12, session.finish)
         session.piece(MESSAGE[4:5])
-        self.assertEqual(session.finish(), make(2, 3, 128, KEYS, MESSAGE[:5]))
+        self.assertEqual(session.finish(), make(Agreement(2, 3, 128), KEYS, MESSAGE[:5]))
 
-        session = Session(4, 1, 64, KEYS)
+        session = Session(Agreement(4, 1, 64), KEYS)
         session.piece(MESSAGE[:16])
         self.refused(9, session.finish)
         session.piece(MESSAGE[16:17], 1)
-        self.assertEqual(session.finish(), make(4, 1, 64, KEYS, MESSAGE[:17], 129))
+        self.assertEqual(session.finish(), make(Agreement(4, 1, 64), KEYS, MESSAGE[:17], 129))
 
     def test_a_finish_closes(self):
-        session = Session(1, 1, 64, KEY)
+        session = Session(Agreement(1, 1, 64), KEY)
         self.assertFalse(session.closed)
         session.finish()
         self.assertTrue(session.closed)
@@ -210,11 +225,7 @@ class Sessions(Case):
             ({"held": (97, 1)}, True),
             ({"held": (98,)}, False),
         ):
-            session = Session(1, 1, 64, KEY)
-            session.piece(b"a")
-            for name, value in fields.items():
-                kind = type(getattr(session._record, name))
-                setattr(session._record, name, kind(*value) if isinstance(value, tuple) else value)
+            session = forged(**fields)
             before = bytes(session._record)
             with self.subTest(**fields):
                 if closed:
@@ -225,6 +236,29 @@ class Sessions(Case):
                     session.piece(b"")
                     self.assertEqual(bytes(session._record), before)
                     self.assertEqual(len(session.finish().tag), 8)
+
+    def test_a_refusal_hands_back_the_very_record(self):
+        """Every refusal but a start's, with whatever stands in what is not read."""
+        odd = {"declared": 2**64 - 1, "keys": tuple(KEY) + (0xC3,) * 16, "chain": (0x5A,) * 16}
+        far = {"algorithm": 2**64 - 1, "padding": 2**64 - 1, "m": 2**64 - 1}
+        for number, fields, piece in (
+            (7, {}, (b"ab", 8)),
+            (8, {"total": 8388600}, (b"ab", 9)),
+            (11, far, (b"a", 8)),
+            (12, {"padding": 3, "declared": 15}, (b"a", 8)),
+            (9, {"algorithm": 4}, None),
+            (11, far, None),
+            (12, {"padding": 3, "declared": 9}, None),
+        ):
+            session = forged(**dict(odd, **fields))
+            before = bytes(session._record)
+            with self.subTest(number=number, piece=piece):
+                self.refused(number, session.finish if piece is None else session.piece, *(piece or ()))
+                self.assertEqual(bytes(session._record), before)
+
+    def test_the_record_holds_the_agreement(self):
+        record = Session(Agreement(1, 2, 64), KEY)._record
+        self.assertEqual(bytes(record)[16:40], bytes.fromhex("01" + "00" * 7 + "02" + "00" * 7 + "40" + "00" * 7))
 
 
 class Slips(Case):
@@ -267,26 +301,27 @@ class Words(Case):
 class Handed(Case):
     def test_numbers_that_do_not_fit(self):
         for number in (-1, 2**64, 2**64 + 1):
-            for arguments in ((number, 1, 64), (1, number, 64), (1, 1, number)):
-                self.assertRaises(ValueError, make, *arguments, KEY, b"")
-                self.assertRaises(ValueError, check, *arguments, KEY, b"", bytes(8))
-                self.assertRaises(ValueError, Session, *arguments, KEY)
-            self.assertRaises(ValueError, make, 1, 1, 64, KEY, b"", number)
-            self.assertRaises(ValueError, Session, 1, 3, 64, KEY, number)
-            self.assertRaises(ValueError, Session(1, 1, 64, KEY).piece, b"", number)
+            for agreement in (Agreement(number, 1, 64), Agreement(1, number, 64), Agreement(1, 1, number)):
+                self.assertRaises(ValueError, make, agreement, KEY, b"")
+                self.assertRaises(ValueError, check, agreement, KEY, b"", bytes(8))
+                self.assertRaises(ValueError, Session, agreement, KEY)
+            self.assertRaises(ValueError, make, Agreement(1, 1, 64), KEY, b"", number)
+            self.assertRaises(ValueError, Session, Agreement(1, 3, 64), KEY, number)
+            self.assertRaises(ValueError, Session(Agreement(1, 1, 64), KEY).piece, b"", number)
 
     def test_what_is_no_number_or_no_bytes(self):
-        self.assertRaises(TypeError, make, 1.0, 1, 64, KEY, b"")
+        self.assertRaises(TypeError, make, Agreement(1.0, 1, 64), KEY, b"")
         for keys in (None, 16, "0" * 16, [0] * 16):
-            self.assertRaises(TypeError, make, 1, 1, 64, keys, b"")
+            self.assertRaises(TypeError, make, Agreement(1, 1, 64), keys, b"")
             self.assertRaises(TypeError, read_slip, keys, KEY)
 
     def test_other_kinds_of_bytes(self):
-        made = make(1, 1, 64, KEY, MESSAGE)
+        plain = Agreement(1, 1, 64)
+        made = make(plain, KEY, MESSAGE)
         for kind in (bytearray, memoryview, lambda value: array.array("B", value)):
-            self.assertEqual(make(1, 1, 64, kind(KEY), kind(MESSAGE)), made)
+            self.assertEqual(make(plain, kind(KEY), kind(MESSAGE)), made)
             self.assertEqual(read_slip(kind(SLIP), kind(KEY)).lot, b"A7")
-        self.assertEqual(make(1, 1, 64, KEY, memoryview(MESSAGE)[::2]), make(1, 1, 64, KEY, MESSAGE[::2]))
+        self.assertEqual(make(plain, KEY, memoryview(MESSAGE)[::2]), make(plain, KEY, MESSAGE[::2]))
 
     def test_a_missing_library_is_named(self):
         environment = dict(os.environ, SLIPSEAL_LIB="/nowhere/libslipseal.so")

@@ -5,18 +5,18 @@
 //! spare bits of the last byte have no influence.
 //!
 //! ```
-//! use slipseal::{check, make, Settings};
+//! use slipseal::{check, make, Agreement};
 //!
 //! let key = [
 //!     0x01, 0x23, 0x45, 0x67, 0x89, 0xAB, 0xCD, 0xEF, 0xFE, 0xDC, 0xBA, 0x98, 0x76, 0x54, 0x32, 0x10,
 //! ];
-//! let settings = Settings { algorithm: 5, padding: 4, m: 64 };
+//! let agreement = Agreement { algorithm: 5, padding: 4, m: 64 };
 //! let message = b"This is the test message for mac";
 //! let mut room = [0; 16];
-//! let made = make(settings, &key, message, 256, &mut room)?;
+//! let made = make(agreement, &key, message, 256, &mut room)?;
 //! assert_eq!(made.tag, [0x69, 0x2C, 0x43, 0x71, 0x00, 0xF3, 0xB5, 0xEE]);
 //! assert_eq!(made.calls, 3);
-//! assert!(check(settings, &key, message, 256, made.tag).is_yes());
+//! assert!(check(agreement, &key, message, 256, made.tag).is_yes());
 //! # Ok::<(), slipseal::Refusal>(())
 //! ```
 
@@ -35,7 +35,7 @@ pub use refusal::Refusal;
 pub use session::{RefusedFinish, Session};
 pub use slip::{read_slip, Slip};
 
-/// How a tag is made. Any numbers may stand here; the calls refuse those that are not allowed, with 1, 2 and 3.
+/// What was agreed on how a tag is made. Any numbers may stand here; the calls refuse those that are not allowed, with 1, 2 and 3.
 ///
 /// | algorithm | padding | key bytes | m |
 /// |---|---|---|---|
@@ -43,12 +43,20 @@ pub use slip::{read_slip, Slip};
 /// | 2, 3, 4, 6 | 1 to 3 | 32, K then K' | 1 to 128 |
 /// | 5, 8 | 4 | 16 | 1 to 128 |
 /// | 7 | 4 | 16 | 1 to 63 |
+#[repr(C)]
 #[derive(Clone, Copy, Debug, PartialEq, Eq)]
-pub struct Settings {
-    pub algorithm: usize,
-    pub padding: usize,
+pub struct Agreement {
+    pub algorithm: u64,
+    pub padding: u64,
     /// The tag's number of bits.
-    pub m: usize,
+    pub m: u64,
+}
+
+impl Agreement {
+    /// The bytes of a tag, for an agreement that was accepted.
+    fn tag_bytes(self) -> usize {
+        self.m.div_ceil(8) as usize
+    }
 }
 
 /// A tag that was made: the first ⌈m/8⌉ bytes of the room lent for it, and the number of cipher calls.
@@ -85,24 +93,23 @@ impl Checked {
 /// The first that applies of 1 to 10, rising; 10 where the room is under ⌈m/8⌉ bytes. The room is then as before.
 ///
 /// ```
-/// use slipseal::{make, Settings};
+/// use slipseal::{make, Agreement};
 ///
-/// let settings = Settings { algorithm: 7, padding: 4, m: 64 };
-/// let refusal = make(settings, &[0; 16], b"", 0, &mut [0; 16]).unwrap_err();
+/// let agreement = Agreement { algorithm: 7, padding: 4, m: 64 };
+/// let refusal = make(agreement, &[0; 16], b"", 0, &mut [0; 16]).unwrap_err();
 /// assert_eq!(refusal.number(), 3);
 /// assert_eq!(refusal.to_string(), "refused 3: the tag's number of bits is not allowed for the algorithm");
 /// ```
 pub fn make<'a>(
-    settings: Settings,
+    agreement: Agreement,
     keys: &[u8],
     message: &[u8],
     bits: usize,
     room: &'a mut [u8],
 ) -> Result<Made<'a>, Refusal> {
-    let Settings { algorithm, padding, m } = settings;
-    let answer = raw::make(algorithm, padding, m, keys, message, bits, room);
+    let answer = raw::make(agreement, keys, message, bits, room);
     Refusal::of(answer.number)?;
-    Ok(Made { tag: &room[..m.div_ceil(8)], calls: answer.calls })
+    Ok(Made { tag: &room[..agreement.tag_bytes()], calls: answer.calls })
 }
 
 /// Checks the tag of a message's first `bits` bits.
@@ -110,14 +117,13 @@ pub fn make<'a>(
 /// Refused with the first that applies of 1 to 10, rising; 10 where the tag is not exactly ⌈m/8⌉ bytes.
 ///
 /// ```
-/// use slipseal::{check, Checked, Settings};
+/// use slipseal::{check, Agreement, Checked};
 ///
-/// let settings = Settings { algorithm: 1, padding: 1, m: 12 };
-/// assert_eq!(check(settings, &[0; 16], b"abc", 24, &[0, 0]), Checked::No { calls: 1 });
+/// let agreement = Agreement { algorithm: 1, padding: 1, m: 12 };
+/// assert_eq!(check(agreement, &[0; 16], b"abc", 24, &[0, 0]), Checked::No { calls: 1 });
 /// ```
-pub fn check(settings: Settings, keys: &[u8], message: &[u8], bits: usize, tag: &[u8]) -> Checked {
-    let Settings { algorithm, padding, m } = settings;
-    let answer = raw::check(algorithm, padding, m, keys, message, bits, tag);
+pub fn check(agreement: Agreement, keys: &[u8], message: &[u8], bits: usize, tag: &[u8]) -> Checked {
+    let answer = raw::check(agreement, keys, message, bits, tag);
     match Refusal::of(answer.number) {
         Err(refusal) => Checked::Refused(refusal),
         Ok(()) if answer.yes == 1 => Checked::Yes { calls: answer.calls },

@@ -1,7 +1,8 @@
-//! The functions and structs of include/slipseal.h, declared again by hand, and each function with slices for its pointers. This is
-//! the one place with `unsafe`: a slice goes as its pointer, which is never null, and its length. The tests and the benchmark of the
-//! repository use it too; everyone else has the functions of the crate's root.
-#![allow(clippy::too_many_arguments)]
+//! The functions and structs of include/slipseal.h, declared again by hand (the agreement in the crate's root), and each function
+//! with slices for its pointers. This is the one place with `unsafe`: a slice goes as its pointer, which is never null, and its
+//! length. The tests and the benchmark of the repository use it too; everyone else has the functions of the crate's root.
+
+use crate::Agreement;
 
 #[repr(C)]
 #[derive(Clone, Copy)]
@@ -16,9 +17,7 @@ pub struct Answer {
 pub struct Record {
     pub phase: u64,
     pub part: u64,
-    pub algorithm: u64,
-    pub padding: u64,
-    pub m: u64,
+    pub agreement: Agreement,
     pub declared: u64,
     pub total: u64,
     pub keys: [u8; 32],
@@ -48,9 +47,7 @@ pub struct Slip {
 
 extern "C" {
     fn slipseal_make(
-        algorithm: usize,
-        padding: usize,
-        m: usize,
+        agreement: Agreement,
         keys: *const u8,
         keys_len: usize,
         message: *const u8,
@@ -61,9 +58,7 @@ extern "C" {
     ) -> Answer;
 
     fn slipseal_check(
-        algorithm: usize,
-        padding: usize,
-        m: usize,
+        agreement: Agreement,
         keys: *const u8,
         keys_len: usize,
         message: *const u8,
@@ -73,53 +68,30 @@ extern "C" {
         tag_len: usize,
     ) -> Answer;
 
-    fn slipseal_start(
-        algorithm: usize,
-        padding: usize,
-        m: usize,
-        keys: *const u8,
-        keys_len: usize,
-        declared: usize,
-    ) -> Step;
+    fn slipseal_start(agreement: Agreement, keys: *const u8, keys_len: usize, declared: usize) -> Step;
 
-    fn slipseal_piece(s: Record, bytes: *const u8, bytes_len: usize, bits: usize) -> Step;
+    fn slipseal_piece(session: Record, bytes: *const u8, bytes_len: usize, bits: usize) -> Step;
 
-    fn slipseal_finish(s: Record, tag: *mut u8, tag_len: usize) -> Step;
+    fn slipseal_finish(session: Record, tag: *mut u8, tag_len: usize) -> Step;
 
     fn slipseal_read(slip: *const u8, slip_len: usize, keys: *const u8, keys_len: usize) -> Slip;
 }
 
-pub fn make(
-    algorithm: usize,
-    padding: usize,
-    m: usize,
-    keys: &[u8],
-    message: &[u8],
-    bits: usize,
-    room: &mut [u8],
-) -> Answer {
+pub fn make(agreement: Agreement, keys: &[u8], message: &[u8], bits: usize, room: &mut [u8]) -> Answer {
     let (k, k_len, s, s_len) = (keys.as_ptr(), keys.len(), message.as_ptr(), message.len());
     // SAFETY: each pointer comes from a slice and goes with its length; the room is lent to this call alone.
-    unsafe { slipseal_make(algorithm, padding, m, k, k_len, s, s_len, bits, room.as_mut_ptr(), room.len()) }
+    unsafe { slipseal_make(agreement, k, k_len, s, s_len, bits, room.as_mut_ptr(), room.len()) }
 }
 
-pub fn check(
-    algorithm: usize,
-    padding: usize,
-    m: usize,
-    keys: &[u8],
-    message: &[u8],
-    bits: usize,
-    tag: &[u8],
-) -> Answer {
+pub fn check(agreement: Agreement, keys: &[u8], message: &[u8], bits: usize, tag: &[u8]) -> Answer {
     let (k, k_len, s, s_len) = (keys.as_ptr(), keys.len(), message.as_ptr(), message.len());
     // SAFETY: each pointer comes from a slice and goes with its length.
-    unsafe { slipseal_check(algorithm, padding, m, k, k_len, s, s_len, bits, tag.as_ptr(), tag.len()) }
+    unsafe { slipseal_check(agreement, k, k_len, s, s_len, bits, tag.as_ptr(), tag.len()) }
 }
 
-pub fn start(algorithm: usize, padding: usize, m: usize, keys: &[u8], declared: usize) -> Step {
+pub fn start(agreement: Agreement, keys: &[u8], declared: usize) -> Step {
     // SAFETY: the pointer comes from a slice and goes with its length.
-    unsafe { slipseal_start(algorithm, padding, m, keys.as_ptr(), keys.len(), declared) }
+    unsafe { slipseal_start(agreement, keys.as_ptr(), keys.len(), declared) }
 }
 
 pub fn piece(record: Record, bytes: &[u8], bits: usize) -> Step {

@@ -4,15 +4,15 @@
 use std::error::Error;
 use std::fmt;
 
-use crate::{raw, Made, Refusal, Settings};
+use crate::{raw, Agreement, Made, Refusal};
 
 /// An open session. It holds the keys.
 ///
 /// ```
-/// use slipseal::{Session, Settings};
+/// use slipseal::{Agreement, Session};
 ///
-/// let settings = Settings { algorithm: 1, padding: 3, m: 128 };
-/// let mut session = Session::start(settings, &[7; 16], 20)?;
+/// let agreement = Agreement { algorithm: 1, padding: 3, m: 128 };
+/// let mut session = Session::start(agreement, &[7; 16], 20)?;
 /// session.piece(b"a", 8)?;
 /// let mut room = [0; 16];
 /// let refused = session.finish(&mut room).unwrap_err();
@@ -40,9 +40,8 @@ impl Session {
     /// # Errors
     ///
     /// The first that applies of 1 to 6, rising, then 8 for the declared length.
-    pub fn start(settings: Settings, keys: &[u8], declared: usize) -> Result<Session, Refusal> {
-        let Settings { algorithm, padding, m } = settings;
-        let step = raw::start(algorithm, padding, m, keys, declared);
+    pub fn start(agreement: Agreement, keys: &[u8], declared: usize) -> Result<Session, Refusal> {
+        let step = raw::start(agreement, keys, declared);
         Refusal::of(step.answer.number)?;
         Ok(Session { record: step.session })
     }
@@ -70,18 +69,15 @@ impl Session {
         if let Err(refusal) = Refusal::of(step.answer.number) {
             return Err(RefusedFinish { refusal, session: Session { record: step.session } });
         }
-        let length = self.record.m.div_ceil(8) as usize;
-        Ok(Made { tag: &room[..length], calls: step.answer.calls })
+        Ok(Made { tag: &room[..self.record.agreement.tag_bytes()], calls: step.answer.calls })
     }
 }
 
-/// Shows the settings and the bits so far; keys and state stay hidden.
+/// Shows the agreement and the bits so far; keys and state stay hidden.
 impl fmt::Debug for Session {
     fn fmt(&self, f: &mut fmt::Formatter<'_>) -> fmt::Result {
         f.debug_struct("Session")
-            .field("algorithm", &self.record.algorithm)
-            .field("padding", &self.record.padding)
-            .field("m", &self.record.m)
+            .field("agreement", &self.record.agreement)
             .field("total", &self.record.total)
             .finish_non_exhaustive()
     }

@@ -3,21 +3,21 @@
 
 mod common;
 
-use common::{annex_a, calls, settings, Vector};
-use slipseal::{check, make, Checked, Session, Settings};
+use common::{agreed, annex_a, calls, Vector};
+use slipseal::{check, make, Agreement, Checked, Session};
 
-/// The settings and tags to try for a vector.
-fn tags(v: &Vector) -> Vec<(Settings, Vec<u8>)> {
+/// The agreements and tags to try for a vector.
+fn tags(v: &Vector) -> Vec<(Agreement, Vec<u8>)> {
     if v.algorithm != 7 {
         return vec![
-            (settings(v.algorithm, v.padding, 64), v.tag.clone()),
-            (settings(v.algorithm, v.padding, 128), v.g.clone()),
+            (agreed(v.algorithm, v.padding, 64), v.tag.clone()),
+            (agreed(v.algorithm, v.padding, 128), v.g.clone()),
         ];
     }
     let printed = u64::from_be_bytes(v.tag.clone().try_into().unwrap());
     let complete = v.message.len() == 32;
     let bits = if complete { printed & !1 } else { printed << 1 };
-    vec![(settings(7, v.padding, 63), bits.to_be_bytes().to_vec())]
+    vec![(agreed(7, v.padding, 63), bits.to_be_bytes().to_vec())]
 }
 
 #[test]
@@ -30,16 +30,16 @@ fn made_and_checked_in_one_call() {
     for v in annex_a() {
         let bits = 8 * v.message.len();
         let calls = calls(v.algorithm, v.padding, bits);
-        for (settings, tag) in tags(&v) {
+        for (agreement, tag) in tags(&v) {
             let mut room = [0xAA; 20];
-            let made = make(settings, &v.keys, v.message, bits, &mut room).unwrap();
-            assert_eq!((made.tag, made.calls), (&tag[..], calls), "{settings:?}");
+            let made = make(agreement, &v.keys, v.message, bits, &mut room).unwrap();
+            assert_eq!((made.tag, made.calls), (&tag[..], calls), "{agreement:?}");
             assert_eq!(room[tag.len()..], vec![0xAA; 20 - tag.len()], "bytes past the tag stay");
-            assert_eq!(check(settings, &v.keys, v.message, bits, &tag), Checked::Yes { calls });
+            assert_eq!(check(agreement, &v.keys, v.message, bits, &tag), Checked::Yes { calls });
             for place in 0..8 * tag.len() {
                 let mut other = tag.clone();
                 other[place / 8] ^= 0x80 >> (place % 8);
-                assert_eq!(check(settings, &v.keys, v.message, bits, &other), Checked::No { calls });
+                assert_eq!(check(agreement, &v.keys, v.message, bits, &other), Checked::No { calls });
             }
         }
     }
@@ -50,23 +50,23 @@ fn sessions_cut_at_every_byte() {
     for v in annex_a() {
         let bits = 8 * v.message.len();
         let calls = calls(v.algorithm, v.padding, bits);
-        for (settings, tag) in tags(&v) {
+        for (agreement, tag) in tags(&v) {
             for cut in 0..=v.message.len() {
                 let (front, back) = v.message.split_at(cut);
-                let mut session = Session::start(settings, &v.keys, bits).unwrap();
+                let mut session = Session::start(agreement, &v.keys, bits).unwrap();
                 session.piece(front, 8 * front.len()).unwrap();
                 session.piece(back, 8 * back.len()).unwrap();
                 let mut room = [0; 16];
                 let made = session.finish(&mut room).unwrap();
-                assert_eq!((made.tag, made.calls), (&tag[..], calls), "{settings:?} cut at {cut}");
+                assert_eq!((made.tag, made.calls), (&tag[..], calls), "{agreement:?} cut at {cut}");
             }
-            let mut session = Session::start(settings, &v.keys, bits).unwrap();
+            let mut session = Session::start(agreement, &v.keys, bits).unwrap();
             for byte in v.message.chunks(1) {
                 session.piece(byte, 8).unwrap();
             }
             let mut room = [0; 16];
             let made = session.finish(&mut room).unwrap();
-            assert_eq!((made.tag, made.calls), (&tag[..], calls), "{settings:?} byte by byte");
+            assert_eq!((made.tag, made.calls), (&tag[..], calls), "{agreement:?} byte by byte");
         }
     }
 }
@@ -75,7 +75,7 @@ fn sessions_cut_at_every_byte() {
 fn sixty_four_bits_of_algorithm_7_are_refused() {
     for v in annex_a().iter().filter(|v| v.algorithm == 7) {
         let refusal =
-            make(settings(7, 4, 64), &v.keys, v.message, 8 * v.message.len(), &mut [0; 16]).unwrap_err();
+            make(agreed(7, 4, 64), &v.keys, v.message, 8 * v.message.len(), &mut [0; 16]).unwrap_err();
         assert_eq!(refusal.number(), 3);
     }
 }

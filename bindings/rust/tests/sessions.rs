@@ -3,12 +3,12 @@
 
 mod common;
 
-use common::{key, keys, settings, MESSAGE};
-use slipseal::{make, Session, Settings};
+use common::{agreed, key, keys, MESSAGE};
+use slipseal::{make, Agreement, Session};
 
-fn one_call(settings: Settings, keys: &[u8], message: &[u8], bits: usize) -> (Vec<u8>, u64) {
+fn one_call(agreement: Agreement, keys: &[u8], message: &[u8], bits: usize) -> (Vec<u8>, u64) {
     let mut room = [0; 16];
-    let made = make(settings, keys, message, bits, &mut room).unwrap();
+    let made = make(agreement, keys, message, bits, &mut room).unwrap();
     (made.tag.to_vec(), made.calls)
 }
 
@@ -21,17 +21,17 @@ fn finished(session: Session) -> (Vec<u8>, u64) {
 #[test]
 fn every_number_of_bits_in_two_pieces() {
     for (algorithm, padding) in [(1, 1), (1, 2), (1, 3), (3, 2), (5, 4), (7, 4), (8, 4)] {
-        let settings = settings(algorithm, padding, 63);
+        let agreement = agreed(algorithm, padding, 63);
         let keys = if algorithm == 3 { keys() } else { key() };
         for bits in 0..=256_usize {
             let message = &MESSAGE[..bits.div_ceil(8)];
             let cut = bits / 16;
-            let mut session = Session::start(settings, &keys, bits).unwrap();
+            let mut session = Session::start(agreement, &keys, bits).unwrap();
             session.piece(&message[..cut], 8 * cut).unwrap();
             session.piece(&message[cut..], bits - 8 * cut).unwrap();
             session.piece(b"", 0).unwrap();
-            let whole = one_call(settings, &keys, message, bits);
-            assert_eq!(finished(session), whole, "{settings:?}, {bits} bits");
+            let whole = one_call(agreement, &keys, message, bits);
+            assert_eq!(finished(session), whole, "{agreement:?}, {bits} bits");
         }
     }
 }
@@ -39,7 +39,7 @@ fn every_number_of_bits_in_two_pieces() {
 #[test]
 fn refused_starts() {
     let number = |algorithm, padding, m, keys: &[u8], declared| {
-        Session::start(settings(algorithm, padding, m), keys, declared).unwrap_err().number()
+        Session::start(agreed(algorithm, padding, m), keys, declared).unwrap_err().number()
     };
     assert_eq!(number(9, 9, 0, b"", 0), 1);
     assert_eq!(number(1, 4, 0, b"", 0), 2);
@@ -48,13 +48,13 @@ fn refused_starts() {
     assert_eq!(number(6, 3, 64, &[7; 32], 8_388_609), 5);
     assert_eq!(number(1, 3, 64, &key(), 8_388_609), 8);
     assert_eq!(number(1, 3, 64, &key(), usize::MAX), 8);
-    assert!(Session::start(settings(1, 3, 64), &key(), 8_388_608).is_ok());
-    assert!(Session::start(settings(1, 2, 64), &key(), usize::MAX).is_ok(), "read under padding 3 only");
+    assert!(Session::start(agreed(1, 3, 64), &key(), 8_388_608).is_ok());
+    assert!(Session::start(agreed(1, 2, 64), &key(), usize::MAX).is_ok(), "read under padding 3 only");
 }
 
 #[test]
 fn refused_pieces_leave_the_session() {
-    let plain = settings(5, 4, 128);
+    let plain = agreed(5, 4, 128);
     let mut session = Session::start(plain, &key(), 0).unwrap();
     session.piece(&MESSAGE[..4], 32).unwrap();
     for (bytes, bits) in [(0, 1), (1, 0), (2, 8), (0, usize::MAX)] {
@@ -72,7 +72,7 @@ fn refused_pieces_leave_the_session() {
 
 #[test]
 fn the_declared_length() {
-    let declared = settings(2, 3, 128);
+    let declared = agreed(2, 3, 128);
     let mut session = Session::start(declared, &keys(), 40).unwrap();
     session.piece(&MESSAGE[..4], 32).unwrap();
     assert_eq!(session.piece(&MESSAGE[4..6], 9).unwrap_err().number(), 12);
@@ -89,7 +89,7 @@ fn the_declared_length() {
 
 #[test]
 fn a_refused_finish_hands_the_session_back() {
-    let four = settings(4, 1, 64);
+    let four = agreed(4, 1, 64);
     let mut session = Session::start(four, &keys(), 0).unwrap();
     session.piece(&MESSAGE[..16], 128).unwrap();
     let mut room = [0xAA; 8];
@@ -106,14 +106,14 @@ fn a_refused_finish_hands_the_session_back() {
 #[test]
 fn a_finish_writes_the_tag_alone() {
     let mut room = [0xAA; 20];
-    let session = Session::start(settings(1, 1, 12), &key(), 0).unwrap();
+    let session = Session::start(agreed(1, 1, 12), &key(), 0).unwrap();
     assert_eq!(session.finish(&mut room).unwrap().tag.len(), 2);
     assert_eq!(room[2..], [0xAA; 18]);
 }
 
 #[test]
 fn the_longest_message_in_pieces() {
-    let plain = settings(1, 1, 128);
+    let plain = agreed(1, 1, 128);
     let zeros = [0; 4096];
     let mut session = Session::start(plain, &key(), 0).unwrap();
     for _ in 0..256 {
@@ -125,6 +125,9 @@ fn the_longest_message_in_pieces() {
 
 #[test]
 fn keys_are_not_shown() {
-    let session = Session::start(settings(1, 1, 12), &[0xC5; 16], 0).unwrap();
-    assert_eq!(format!("{session:?}"), "Session { algorithm: 1, padding: 1, m: 12, total: 0, .. }");
+    let session = Session::start(agreed(1, 1, 12), &[0xC5; 16], 0).unwrap();
+    assert_eq!(
+        format!("{session:?}"),
+        "Session { agreement: Agreement { algorithm: 1, padding: 1, m: 12 }, total: 0, .. }"
+    );
 }

@@ -2,8 +2,8 @@
 
 mod common;
 
-use common::{hex, key, keys, settings};
-use slipseal::{make, read_slip, Settings};
+use common::{agreed, hex, key, keys};
+use slipseal::{make, read_slip, Agreement};
 
 const COVERED: &str = "01000832303236313130340200024137030004000001F4";
 
@@ -20,10 +20,10 @@ fn refused(slip: &[u8], keys: &[u8]) -> u64 {
 }
 
 /// The fields with a seal made under K.
-fn sealed(fields: &[u8], settings: Settings) -> Vec<u8> {
+fn sealed(fields: &[u8], agreement: Agreement) -> Vec<u8> {
     let mut room = [0; 16];
-    let tag = make(settings, &key(), fields, 8 * fields.len(), &mut room).unwrap().tag;
-    let Settings { algorithm, padding, m } = settings;
+    let tag = make(agreement, &key(), fields, 8 * fields.len(), &mut room).unwrap().tag;
+    let Agreement { algorithm, padding, m } = agreement;
     let head = [0x7F, 0, 3 + tag.len() as u8, algorithm as u8, padding as u8, m as u8];
     [fields, &head, tag].concat()
 }
@@ -32,7 +32,7 @@ fn with_lot(lot: &[u8]) -> Vec<u8> {
     let fields =
         [b"\x01\x00\x0820991231\x02\x00", &[lot.len() as u8][..], lot, b"\x03\x00\x04\x00\x0F\x42\x40"]
             .concat();
-    sealed(&fields, settings(8, 4, 128))
+    sealed(&fields, agreed(8, 4, 128))
 }
 
 #[test]

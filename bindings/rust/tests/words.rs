@@ -5,7 +5,7 @@ mod common;
 
 use std::collections::BTreeMap;
 
-use common::{key, settings};
+use common::{agreed, key};
 use slipseal::{make, read_slip, Refusal, Session};
 
 /// Number and words of each row of the card's tables.
@@ -31,10 +31,10 @@ fn refusals() -> Vec<Refusal> {
         (1, 1, 128, 16, 0, 0),
     ]
     .map(|(algorithm, padding, m, keys, bytes, bits)| {
-        make(settings(algorithm, padding, m), &zeros[..keys], &zeros[..bytes], bits, &mut [0; 8]).unwrap_err()
+        make(agreed(algorithm, padding, m), &zeros[..keys], &zeros[..bytes], bits, &mut [0; 8]).unwrap_err()
     });
-    let four = make(settings(4, 1, 64), &common::keys(), b"", 0, &mut [0; 8]).unwrap_err();
-    let mut session = Session::start(settings(1, 3, 64), &key(), 1).unwrap();
+    let four = make(agreed(4, 1, 64), &common::keys(), b"", 0, &mut [0; 8]).unwrap_err();
+    let mut session = Session::start(agreed(1, 3, 64), &key(), 1).unwrap();
     let twelve = session.piece(&[0], 2).unwrap_err();
     session.piece(&[0], 1).unwrap();
     let eleven = session.piece(&[0], 1).unwrap_err();

@@ -9,23 +9,24 @@ use reference::cases::Random;
 use reference::mac::m_limit;
 use reference::padding::bytes_for;
 use reference::session::Record;
-use reference::{hex, unhex, Answer};
+use reference::{hex, unhex, Agreement, Answer};
 
 const MOST: usize = (LIMIT / 8) as usize;
+const PLAIN: Agreement = Agreement { algorithm: 1, padding: 1, m: 128 };
 
 /// Algorithm 1, padding 1, zeros.
 pub fn known(r: &mut Random, run: &mut Run) {
     let keys = unhex("0123456789ABCDEFFEDCBA9876543210").expect("hex digits");
     let zeros = vec![0; MOST + 1];
     let mut tag = [0; 16];
-    let made = library::make([1, 1, 128], &keys, &zeros[..MOST], LIMIT, &mut tag);
+    let made = library::make(PLAIN, &keys, &zeros[..MOST], LIMIT, &mut tag);
     run.same(&made, &Answer { number: 0, yes: 1, calls: 65_536 }, || "8,388,608 zeros".to_string());
     run.same(&hex(&tag), &"52E7B8DB5C984966E56E4943745D6392".to_string(), || "8,388,608 zeros".to_string());
     for (size, number) in [(MOST + 1, 8), (MOST, 7)] {
-        let answer = library::make([1, 1, 128], &keys, &zeros[..size], LIMIT + 1, &mut tag);
+        let answer = library::make(PLAIN, &keys, &zeros[..size], LIMIT + 1, &mut tag);
         run.same(&answer, &Answer::refused(number), || format!("one bit more in {size} bytes"));
     }
-    let (mut record, _) = run.start([1, 1, 128], &keys, 0);
+    let (mut record, _) = run.start(PLAIN, &keys, 0);
     for _ in 0..16 {
         record = run.piece(&record, &zeros[..MOST / 16], LIMIT / 16).0;
     }
@@ -38,24 +39,24 @@ pub fn known(r: &mut Random, run: &mut Run) {
 /// Any bits, under one algorithm and padding.
 pub fn case(r: &mut Random, run: &mut Run, [algorithm, padding]: [u64; 2]) {
     let mut s = Settings::sound(r, algorithm);
-    s.numbers = [algorithm, padding, m_limit(algorithm)];
+    s.agreement = Agreement { algorithm, padding, m: m_limit(algorithm) };
     let mut bytes = vec![0; MOST + 1];
     r.fill(&mut bytes);
     let size = s.tag_size();
 
     let mut tag = vec![0; size];
-    let made = library::make(s.numbers, &s.keys, &bytes[..MOST], LIMIT, &mut tag);
+    let made = library::make(s.agreement, &s.keys, &bytes[..MOST], LIMIT, &mut tag);
     let room = Room::new(r, size);
-    run.make(s.numbers, &s.keys, &bytes[..MOST], LIMIT - 1 - r.below(7), room);
-    let checked = run.check(s.numbers, &s.keys, &bytes[..MOST], LIMIT, &tag);
+    run.make(s.agreement, &s.keys, &bytes[..MOST], LIMIT - 1 - r.below(7), room);
+    let checked = run.check(s.agreement, &s.keys, &bytes[..MOST], LIMIT, &tag);
     run.same(&made, &checked, || "the longest message, made and checked".to_string());
     for size in [MOST - 1, MOST, MOST + 1] {
         let room = Room::new(r, 16);
-        run.make(s.numbers, &s.keys, &bytes[..size], LIMIT + 1, room);
-        run.check(s.numbers, &s.keys, &bytes[..size], LIMIT + 1, &tag);
+        run.make(s.agreement, &s.keys, &bytes[..size], LIMIT + 1, room);
+        run.check(s.agreement, &s.keys, &bytes[..size], LIMIT + 1, &tag);
     }
 
-    let (mut record, _) = run.start(s.numbers, &s.keys, LIMIT);
+    let (mut record, _) = run.start(s.agreement, &s.keys, LIMIT);
     let mut at = 0;
     while at < MOST {
         let count = (1 + r.below(100_000) as usize).min(MOST - at);
@@ -75,7 +76,7 @@ pub fn case(r: &mut Random, run: &mut Run, [algorithm, padding]: [u64; 2]) {
 
 /// A session that holds the whole message, fed by two pieces.
 fn full(run: &mut Run, s: &Settings, bytes: &[u8]) -> Record {
-    let (record, _) = run.start(s.numbers, &s.keys, 8 * bytes.len() as u64);
+    let (record, _) = run.start(s.agreement, &s.keys, 8 * bytes.len() as u64);
     let (one, two) = bytes.split_at(bytes.len() / 3);
     let (record, _) = run.piece(&record, one, 8 * one.len() as u64);
     run.piece(&record, two, 8 * two.len() as u64).0

@@ -9,7 +9,7 @@ use reference::padding::bytes_for;
 
 pub fn case(r: &mut Random, run: &mut Run) {
     let s = Settings::draw(r);
-    let mut count = bits(r, s.algorithm());
+    let mut count = bits(r, s.agreement.algorithm);
     let mut bytes = message(r, count);
     match r.below(48) {
         0 => bytes.push(r.below(256) as u8),
@@ -28,17 +28,16 @@ pub fn case(r: &mut Random, run: &mut Run) {
     }
     let size = near(r, s.tag_size());
     let room = Room::new(r, size);
-    run.make(s.numbers, &s.keys, &bytes, count, room);
+    run.make(s.agreement, &s.keys, &bytes, count, room);
     let tag = offered(r, &s, &bytes, count);
-    run.check(s.numbers, &s.keys, &bytes, count, &tag);
+    run.check(s.agreement, &s.keys, &bytes, count, &tag);
 }
 
 /// A tag to be checked, made from the right one where there is one.
 fn offered(r: &mut Random, s: &Settings, bytes: &[u8], count: u64) -> Vec<u8> {
-    let [a, p, m] = s.numbers;
     let mut tag = vec![0; 16];
     r.fill(&mut tag);
-    reference::make(a, p, m, &s.keys, bytes, count, &mut tag);
+    reference::make(s.agreement, &s.keys, bytes, count, &mut tag);
     let size = s.tag_size();
     tag.truncate(size);
     match r.below(16) {

@@ -5,6 +5,7 @@ use reference::call::LIMIT;
 use reference::cases::Random;
 use reference::mac::{m_limit, two_keys};
 use reference::padding::bytes_for;
+use reference::Agreement;
 
 /// True once in so many times.
 pub fn once_in(r: &mut Random, n: u64) -> bool {
@@ -36,9 +37,10 @@ pub fn far_bits(r: &mut Random) -> u64 {
     }
 }
 
+/// An agreement and keys for it.
 #[derive(Clone)]
 pub struct Settings {
-    pub numbers: [u64; 3],
+    pub agreement: Agreement,
     pub keys: Vec<u8>,
 }
 
@@ -83,23 +85,20 @@ impl Settings {
             }
         }
         keys.truncate(count as usize);
-        Settings { numbers: [algorithm, padding, m], keys }
+        Settings { agreement: Agreement { algorithm, padding, m }, keys }
     }
 
     /// Settings that pass, for an algorithm of 1 to 8.
     pub fn sound(r: &mut Random, algorithm: u64) -> Settings {
         let mut keys = vec![0; if two_keys(algorithm) { 32 } else { 16 }];
         r.fill(&mut keys);
-        Settings { numbers: [algorithm, fitting(r, algorithm), 1 + r.below(m_limit(algorithm))], keys }
-    }
-
-    pub fn algorithm(&self) -> u64 {
-        self.numbers[0]
+        let (padding, m) = (fitting(r, algorithm), 1 + r.below(m_limit(algorithm)));
+        Settings { agreement: Agreement { algorithm, padding, m }, keys }
     }
 
     /// ⌈m/8⌉, or 16 where m is no size.
     pub fn tag_size(&self) -> usize {
-        match self.numbers[2] {
+        match self.agreement.m {
             m @ 1..=128 => bytes_for(m) as usize,
             _ => 16,
         }

@@ -3,37 +3,41 @@
 
 use reference::session::Record;
 use reference::slip::Slip;
-use reference::Answer;
+use reference::{Agreement, Answer};
 use slipseal::raw;
 
 fn answer(a: raw::Answer) -> Answer {
     Answer { number: a.number, yes: a.yes, calls: a.calls }
 }
 
+fn agreed(a: Agreement) -> slipseal::Agreement {
+    let Agreement { algorithm, padding, m } = a;
+    slipseal::Agreement { algorithm, padding, m }
+}
+
 fn inward(r: &Record) -> raw::Record {
-    let Record { phase, part, algorithm, padding, m, declared, total, keys, chain, held } = *r;
-    raw::Record { phase, part, algorithm, padding, m, declared, total, keys, chain, held }
+    let Record { phase, part, agreement, declared, total, keys, chain, held } = *r;
+    raw::Record { phase, part, agreement: agreed(agreement), declared, total, keys, chain, held }
 }
 
 fn step(out: raw::Step) -> (Record, Answer) {
-    let raw::Record { phase, part, algorithm, padding, m, declared, total, keys, chain, held } = out.session;
-    let record = Record { phase, part, algorithm, padding, m, declared, total, keys, chain, held };
+    let raw::Record { phase, part, agreement, declared, total, keys, chain, held } = out.session;
+    let slipseal::Agreement { algorithm, padding, m } = agreement;
+    let agreement = Agreement { algorithm, padding, m };
+    let record = Record { phase, part, agreement, declared, total, keys, chain, held };
     (record, answer(out.answer))
 }
 
-pub fn make(settings: [u64; 3], keys: &[u8], message: &[u8], bits: u64, room: &mut [u8]) -> Answer {
-    let [a, p, m] = settings.map(|n| n as usize);
-    answer(raw::make(a, p, m, keys, message, bits as usize, room))
+pub fn make(agreement: Agreement, keys: &[u8], message: &[u8], bits: u64, room: &mut [u8]) -> Answer {
+    answer(raw::make(agreed(agreement), keys, message, bits as usize, room))
 }
 
-pub fn check(settings: [u64; 3], keys: &[u8], message: &[u8], bits: u64, offered: &[u8]) -> Answer {
-    let [a, p, m] = settings.map(|n| n as usize);
-    answer(raw::check(a, p, m, keys, message, bits as usize, offered))
+pub fn check(agreement: Agreement, keys: &[u8], message: &[u8], bits: u64, offered: &[u8]) -> Answer {
+    answer(raw::check(agreed(agreement), keys, message, bits as usize, offered))
 }
 
-pub fn start(settings: [u64; 3], keys: &[u8], declared: u64) -> (Record, Answer) {
-    let [a, p, m] = settings.map(|n| n as usize);
-    step(raw::start(a, p, m, keys, declared as usize))
+pub fn start(agreement: Agreement, keys: &[u8], declared: u64) -> (Record, Answer) {
+    step(raw::start(agreed(agreement), keys, declared as usize))
 }
 
 pub fn piece(record: &Record, bytes: &[u8], bits: u64) -> (Record, Answer) {

@@ -3,7 +3,7 @@
 
 use crate::library;
 use reference::session::{self, Record};
-use reference::{hex, Answer};
+use reference::{hex, Agreement, Answer};
 use std::collections::BTreeMap;
 use std::fmt::Debug;
 
@@ -28,11 +28,17 @@ pub fn word(bytes: &[u8]) -> String {
     }
 }
 
+/// An agreement as the reference's command lines have it.
+fn words(Agreement { algorithm, padding, m }: Agreement) -> String {
+    format!("{algorithm} {padding} {m}")
+}
+
 /// A record as the reference's command `forge` takes it.
 fn forge(r: &Record) -> String {
-    let numbers = [r.phase, r.part, r.algorithm, r.padding, r.m, r.declared, r.total];
-    let numbers: String = numbers.iter().map(|number| format!(" {number}")).collect();
-    format!("forge{numbers} {} {} {} {}", hex(&r.keys[..16]), hex(&r.keys[16..]), hex(&r.chain), hex(&r.held))
+    let Record { phase, part, declared, total, .. } = r;
+    let numbers = format!("{phase} {part} {} {declared} {total}", words(r.agreement));
+    let blocks = [&r.keys[..16], &r.keys[16..], &r.chain, &r.held].map(hex).join(" ");
+    format!("forge {numbers} {blocks}")
 }
 
 /// A room of so many bytes in the middle of a longer buffer of pseudo-random bytes.
@@ -84,24 +90,37 @@ impl Run {
         self.answers.get(function).and_then(|answers| answers.get(answer)).copied().unwrap_or(0)
     }
 
-    pub fn make(&mut self, s: [u64; 3], keys: &[u8], message: &[u8], bits: u64, room: Room) -> Answer {
+    pub fn make(
+        &mut self,
+        agreement: Agreement,
+        keys: &[u8],
+        message: &[u8],
+        bits: u64,
+        room: Room,
+    ) -> Answer {
         let (mut ours, mut theirs) = (room.clone(), room);
         let size = ours.inner().len();
-        let [a, p, m] = s;
-        let got = library::make(s, keys, message, bits, ours.inner());
-        let want = reference::make(a, p, m, keys, message, bits, theirs.inner());
-        let line = || format!("make {a} {p} {m} {} {} {bits} {size}", word(keys), word(message));
+        let got = library::make(agreement, keys, message, bits, ours.inner());
+        let want = reference::make(agreement, keys, message, bits, theirs.inner());
+        let line = || format!("make {} {} {} {bits} {size}", words(agreement), word(keys), word(message));
         self.same(&got, &want, line);
         self.same(&ours.bytes, &theirs.bytes, || format!("{} (room)", line()));
         self.count("make", want.number.to_string());
         want
     }
 
-    pub fn check(&mut self, s: [u64; 3], keys: &[u8], message: &[u8], bits: u64, tag: &[u8]) -> Answer {
-        let [a, p, m] = s;
-        let got = library::check(s, keys, message, bits, tag);
-        let want = reference::check(a, p, m, keys, message, bits, tag);
-        let line = || format!("check {a} {p} {m} {} {} {bits} {}", word(keys), word(message), word(tag));
+    pub fn check(
+        &mut self,
+        agreement: Agreement,
+        keys: &[u8],
+        message: &[u8],
+        bits: u64,
+        tag: &[u8],
+    ) -> Answer {
+        let got = library::check(agreement, keys, message, bits, tag);
+        let want = reference::check(agreement, keys, message, bits, tag);
+        let line =
+            || format!("check {} {} {} {bits} {}", words(agreement), word(keys), word(message), word(tag));
         self.same(&got, &want, line);
         let told = match (want.number, want.yes) {
             (0, 1) => "yes".to_string(),
@@ -112,11 +131,10 @@ impl Run {
         want
     }
 
-    pub fn start(&mut self, s: [u64; 3], keys: &[u8], declared: u64) -> (Record, Answer) {
-        let [a, p, m] = s;
-        let got = library::start(s, keys, declared);
-        let want = session::start(a, p, m, keys, declared);
-        self.same(&got, &want, || format!("start {a} {p} {m} {} {declared}", word(keys)));
+    pub fn start(&mut self, agreement: Agreement, keys: &[u8], declared: u64) -> (Record, Answer) {
+        let got = library::start(agreement, keys, declared);
+        let want = session::start(agreement, keys, declared);
+        self.same(&got, &want, || format!("start {} {} {declared}", words(agreement), word(keys)));
         self.count("start", want.1.number.to_string());
         want
     }

@@ -12,7 +12,7 @@ use reference::Answer;
 pub fn case(r: &mut Random, run: &mut Run) {
     let sound = 1 + r.below(8);
     let s = if once_in(r, 3) { Settings::draw(r) } else { Settings::sound(r, sound) };
-    let count = bits(r, s.algorithm());
+    let count = bits(r, s.agreement.algorithm);
     let bytes = message(r, count);
     let declared = match r.below(16) {
         0 => count + 1,
@@ -21,7 +21,7 @@ pub fn case(r: &mut Random, run: &mut Run) {
         3 => LIMIT + r.below(3),
         _ => count,
     };
-    let (mut record, _) = run.start(s.numbers, &s.keys, declared);
+    let (mut record, _) = run.start(s.agreement, &s.keys, declared);
     let mut forged = false;
     let mut at = 0; // the bits of the message accepted so far
     for left in (0..=r.below(14)).rev() {
@@ -75,10 +75,9 @@ fn finish(
     let room = Room::new(r, size);
     let (next, answer, room) = run.finish(record, room);
     if answer.number == 0 && !forged {
-        let [a, p, m] = s.numbers;
         let mut tag = [0; 16];
         let joined = &bytes[..bytes_for(at) as usize];
-        let whole = reference::make(a, p, m, &s.keys, joined, at, &mut tag);
+        let whole = reference::make(s.agreement, &s.keys, joined, at, &mut tag);
         let size = s.tag_size();
         let (ours, theirs): ((Answer, &[u8]), _) = ((answer, &room[..size]), (whole, &tag[..size]));
         run.same(&ours, &theirs, || format!("a session of {at} bits, and the same bits in one call"));
@@ -104,8 +103,7 @@ fn forge(r: &mut Random, record: &Record) -> Record {
 /// An open record: its chain value, its second key and the bits that it holds are any, its total is often near the limit.
 fn open(r: &mut Random) -> Record {
     let algorithm = 1 + r.below(8);
-    let s = Settings::sound(r, algorithm);
-    let [algorithm, padding, m] = s.numbers;
+    let agreement = Settings::sound(r, algorithm).agreement;
     let total = match r.below(4) {
         0 => r.below(LIMIT + 1),
         1 => LIMIT - r.below(80),
@@ -118,18 +116,10 @@ fn open(r: &mut Random) -> Record {
         2 => (total + r.below(64)).min(LIMIT),
         _ => total + r.below(LIMIT + 1 - total),
     };
-    let declared = if padding == 3 { declared.clamp(total, LIMIT) } else { declared };
+    let declared = if agreement.padding == 3 { declared.clamp(total, LIMIT) } else { declared };
     let part = total % 8;
-    let mut out = Record {
-        phase: 1 + u64::from(part != 0),
-        part,
-        algorithm,
-        padding,
-        m,
-        declared,
-        total,
-        ..Record::default()
-    };
+    let phase = 1 + u64::from(part != 0);
+    let mut out = Record { phase, part, agreement, declared, total, ..Record::default() };
     r.fill(&mut out.keys);
     r.fill(&mut out.chain);
     r.fill(&mut out.held);
@@ -146,9 +136,9 @@ fn one_field(r: &mut Random, record: &Record) -> Record {
         0 => out.phase = any.unwrap_or(r.below(5)),
         1 => out.part = any.unwrap_or(r.below(10)),
         2 => (out.phase, out.part) = (1 + r.below(2), out.total % 8),
-        3 => out.algorithm = any.unwrap_or(r.below(10)),
-        4 => out.padding = any.unwrap_or(r.below(6)),
-        5 => out.m = any.unwrap_or(r.below(131)),
+        3 => out.agreement.algorithm = any.unwrap_or(r.below(10)),
+        4 => out.agreement.padding = any.unwrap_or(r.below(6)),
+        5 => out.agreement.m = any.unwrap_or(r.below(131)),
         6 => out.declared = any.unwrap_or(r.below(2 * out.total.min(LIMIT) + 2)),
         7 => out.declared = LIMIT + r.below(3),
         8 => out.total = any.unwrap_or(8 * r.below(200)),

@@ -5,6 +5,7 @@ use crate::draw::{once_in, Settings};
 use crate::run::Run;
 use reference::cases::{draw_slip, Random};
 use reference::padding::bytes_for;
+use reference::Agreement;
 
 fn field(tag: u8, value: &[u8]) -> Vec<u8> {
     [&[tag, 0, value.len() as u8], value].concat()
@@ -36,10 +37,12 @@ fn covered(r: &mut Random) -> Vec<Vec<u8>> {
 
 /// The seal of some bytes, with the tag that is right where the settings are.
 fn seal(s: &Settings, covered: &[u8]) -> Vec<u8> {
-    let [a, p, m] = s.numbers.map(|number| number % 256);
+    let Agreement { algorithm, padding, m } = s.agreement;
+    let [algorithm, padding, m] = [algorithm, padding, m].map(|number| number % 256);
     let mut tag = [0xA5; 16];
-    reference::make(a, p, m, &s.keys, covered, 8 * covered.len() as u64, &mut tag);
-    field(0x7F, &[&[a as u8, p as u8, m as u8], &tag[..s.tag_size()]].concat())
+    let agreement = Agreement { algorithm, padding, m };
+    reference::make(agreement, &s.keys, covered, 8 * covered.len() as u64, &mut tag);
+    field(0x7F, &[&[algorithm as u8, padding as u8, m as u8], &tag[..s.tag_size()]].concat())
 }
 
 pub fn case(r: &mut Random, run: &mut Run) {
@@ -114,7 +117,7 @@ fn exchanged(r: &mut Random) -> (Vec<u8>, Vec<u8>) {
 /// A sound slip, cut to every length and changed in every byte to every value.
 pub fn every(r: &mut Random, run: &mut Run, [algorithm, padding]: [u64; 2]) {
     let mut s = Settings::sound(r, algorithm);
-    s.numbers[1] = padding;
+    s.agreement.padding = padding;
     let mut part = covered(r).concat();
     let mut slip = [&part[..], &seal(&s, &part)].concat();
     while run.read(&slip, &s.keys) != 0 {
@@ -135,7 +138,7 @@ pub fn every(r: &mut Random, run: &mut Run, [algorithm, padding]: [u64; 2]) {
     // Every m and every length of the tag, beside the right bytes.
     let at = part.len();
     let mut tag = [0; 16];
-    reference::make(algorithm, padding, s.numbers[2], &s.keys, &part, 8 * at as u64, &mut tag);
+    reference::make(s.agreement, &s.keys, &part, 8 * at as u64, &mut tag);
     for m in 0..=129 {
         for size in [1, bytes_for(m), bytes_for(m) + 1].map(|size| size.clamp(1, 16) as usize) {
             let value = [&[algorithm as u8, padding as u8, m as u8], &tag[..size]].concat();

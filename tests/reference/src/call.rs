@@ -7,6 +7,14 @@ use crate::sm4::Block;
 /// The most bits a message may have.
 pub const LIMIT: u64 = 8_388_608;
 
+/// What was agreed: any numbers may stand here, and the calls judge them.
+#[derive(Clone, Copy, Debug, Default, PartialEq, Eq)]
+pub struct Agreement {
+    pub algorithm: u64,
+    pub padding: u64,
+    pub m: u64,
+}
+
 /// `number` is 0 or the refusal's. `yes` is 1 for a tag made or found right; a tag found wrong is
 /// number 0, yes 0, with its calls. A refusal has yes 0 and calls 0.
 #[derive(Clone, Copy, Debug, Default, PartialEq, Eq)]
@@ -23,7 +31,8 @@ impl Answer {
 }
 
 /// The first of refusals 1 to 6 that applies, or 0.
-pub fn settings_refusal(algorithm: u64, padding: u64, m: u64, keys: &[u8]) -> u64 {
+pub fn settings_refusal(agreement: Agreement, keys: &[u8]) -> u64 {
+    let Agreement { algorithm, padding, m } = agreement;
     if !(1..=8).contains(&algorithm) {
         return 1;
     }
@@ -51,14 +60,15 @@ pub fn settings_refusal(algorithm: u64, padding: u64, m: u64, keys: &[u8]) -> u6
 
 /// The tag (its first ⌈m/8⌉ bytes), ⌈m/8⌉ and the calls, or the first refusal of 1 to 10.
 fn tag_of(
-    (algorithm, padding, m): (u64, u64, u64),
+    agreement: Agreement,
     keys: &[u8],
     message: &[u8],
     bits: u64,
     length_fits: impl Fn(usize) -> bool,
 ) -> Result<(Block, usize, u64), u64> {
+    let Agreement { algorithm, padding, m } = agreement;
     let size = bytes_for(m) as usize;
-    let number = match settings_refusal(algorithm, padding, m, keys) {
+    let number = match settings_refusal(agreement, keys) {
         0 if message.len() as u64 != bytes_for(bits) => 7,
         0 if bits > LIMIT => 8,
         0 if algorithm == 4 && padding::q(padding, bits) < 2 => 9,
@@ -73,16 +83,8 @@ fn tag_of(
 }
 
 /// Makes a tag; an accepted call writes the first ⌈m/8⌉ bytes of `tag` and no others.
-pub fn make(
-    algorithm: u64,
-    padding: u64,
-    m: u64,
-    keys: &[u8],
-    message: &[u8],
-    bits: u64,
-    tag: &mut [u8],
-) -> Answer {
-    match tag_of((algorithm, padding, m), keys, message, bits, |size| tag.len() >= size) {
+pub fn make(agreement: Agreement, keys: &[u8], message: &[u8], bits: u64, tag: &mut [u8]) -> Answer {
+    match tag_of(agreement, keys, message, bits, |size| tag.len() >= size) {
         Err(number) => Answer::refused(number),
         Ok((right, size, calls)) => {
             tag[..size].copy_from_slice(&right[..size]);
@@ -92,16 +94,8 @@ pub fn make(
 }
 
 /// Checks a tag of exactly ⌈m/8⌉ bytes; a spare bit that is set makes it wrong.
-pub fn check(
-    algorithm: u64,
-    padding: u64,
-    m: u64,
-    keys: &[u8],
-    message: &[u8],
-    bits: u64,
-    tag: &[u8],
-) -> Answer {
-    match tag_of((algorithm, padding, m), keys, message, bits, |size| tag.len() == size) {
+pub fn check(agreement: Agreement, keys: &[u8], message: &[u8], bits: u64, tag: &[u8]) -> Answer {
+    match tag_of(agreement, keys, message, bits, |size| tag.len() == size) {
         Err(number) => Answer::refused(number),
         Ok((right, size, calls)) => Answer { number: 0, yes: u64::from(right[..size] == *tag), calls },
     }

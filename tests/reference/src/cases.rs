@@ -91,7 +91,7 @@
 //! FNV-1a, 64 bits, over all that is put: from CBF29CE484222325, for each byte
 //! `d = (d ^ byte) * 100000001B3`. A number is put as 8 bytes, high first.
 
-use crate::call::{check, make, Answer};
+use crate::call::{check, make, Agreement, Answer};
 use crate::mac::{m_limit, two_keys};
 use crate::padding::bytes_for;
 use crate::session::{self, Record};
@@ -178,16 +178,16 @@ impl Results {
     }
 
     fn put_session(&mut self, what: &str, answer: Answer, r: &Record, tag: &[u8]) {
-        let words = [answer.number, answer.yes, answer.calls, r.phase, r.part, r.algorithm, r.padding];
-        let words = [&words[..], &[r.m, r.declared, r.total]].concat();
+        let Agreement { algorithm, padding, m } = r.agreement;
+        let words = [answer.number, answer.yes, answer.calls, r.phase, r.part, algorithm, padding, m];
+        let words = [&words[..], &[r.declared, r.total]].concat();
         self.put(what, &words, &[&r.keys, &r.chain, &r.held, tag]);
     }
 }
 
+/// An agreement and keys for it.
 pub struct Settings {
-    pub algorithm: u64,
-    pub padding: u64,
-    pub m: u64,
+    pub agreement: Agreement,
     pub key_bytes: [u8; 48],
     pub key_count: usize,
 }
@@ -228,7 +228,8 @@ impl Settings {
             }
             key_bytes[31] ^= u8::from(kind == 2);
         }
-        Settings { algorithm, padding, m, key_bytes, key_count: key_count as usize }
+        let agreement = Agreement { algorithm, padding, m };
+        Settings { agreement, key_bytes, key_count: key_count as usize }
     }
 
     pub fn keys(&self) -> &[u8] {
@@ -236,15 +237,15 @@ impl Settings {
     }
 
     pub fn tag_size(&self) -> u64 {
-        if (1..=128).contains(&self.m) {
-            bytes_for(self.m)
+        if (1..=128).contains(&self.agreement.m) {
+            bytes_for(self.agreement.m)
         } else {
             16
         }
     }
 
     fn words(&self) -> [u64; 3] {
-        [self.algorithm, self.padding, self.m]
+        [self.agreement.algorithm, self.agreement.padding, self.agreement.m]
     }
 }
 
@@ -280,12 +281,12 @@ pub fn one_call_case(r: &mut Random, results: &mut Results) {
     let message = &bytes[..count as usize];
     results.print("settings", &s.words(), &[s.keys()]);
     results.print("bits, room, offered, turn", &[bits, room as u64, offered as u64, turn as u64], &[message]);
-    let made = make(s.algorithm, s.padding, s.m, s.keys(), message, bits, &mut tag[..room]);
+    let made = make(s.agreement, s.keys(), message, bits, &mut tag[..room]);
     results.put("make", &[made.number, made.yes, made.calls], &[&tag]);
     if turn < 128 {
         tag[turn / 8] ^= 0x80 >> (turn % 8);
     }
-    let checked = check(s.algorithm, s.padding, s.m, s.keys(), message, bits, &tag[..offered]);
+    let checked = check(s.agreement, s.keys(), message, bits, &tag[..offered]);
     results.put("check", &[checked.number, checked.yes, checked.calls], &[]);
 }
 
@@ -299,7 +300,7 @@ pub fn session_case(r: &mut Random, results: &mut Results) {
         _ => bits,
     };
     results.print("settings", &[&s.words()[..], &[declared]].concat(), &[s.keys()]);
-    let (mut record, answer) = session::start(s.algorithm, s.padding, s.m, s.keys(), declared);
+    let (mut record, answer) = session::start(s.agreement, s.keys(), declared);
     results.put_session("start", answer, &record, &[]);
 
     let mut tag = [0xA5; 24];
@@ -349,9 +350,9 @@ fn forge(r: &mut Random, record: &mut Record) {
     match r.below(14) {
         0 => record.phase = r.below(4),
         1 => record.part = r.below(9),
-        2 => record.algorithm = r.below(10),
-        3 => record.padding = r.below(6),
-        4 => record.m = r.one_of(&FAR),
+        2 => record.agreement.algorithm = r.below(10),
+        3 => record.agreement.padding = r.below(6),
+        4 => record.agreement.m = r.one_of(&FAR),
         5 => record.declared = r.below(700),
         6 => record.total = r.below(700),
         7 => record.total = 8_388_609 + r.below(2),
@@ -377,7 +378,8 @@ fn forge(r: &mut Random, record: &mut Record) {
 /// A slip and the settings whose keys it is read under.
 pub fn draw_slip(r: &mut Random) -> (Vec<u8>, Settings) {
     let mut s = Settings::draw(r);
-    (s.algorithm, s.padding, s.m) = (s.algorithm % 256, s.padding % 256, s.m % 256);
+    let [algorithm, padding, m] = s.words().map(|number| number % 256);
+    s.agreement = Agreement { algorithm, padding, m };
     let (year, month, day) = match r.below(8) {
         0 => (1990 + r.below(120), r.below(14), r.below(33)),
         1 => (2000 + r.below(100), 2, 28 + r.below(3)),
@@ -408,8 +410,8 @@ pub fn draw_slip(r: &mut Random) -> (Vec<u8>, Settings) {
     slip.extend([3, 0, 4]);
     slip.extend((amount as u32).to_be_bytes());
     let mut tag = [0xA5; 17];
-    make(s.algorithm, s.padding, s.m, s.keys(), &slip, 8 * slip.len() as u64, &mut tag);
-    slip.extend([0x7F, 0, 3 + tag_count as u8, s.algorithm as u8, s.padding as u8, s.m as u8]);
+    make(s.agreement, s.keys(), &slip, 8 * slip.len() as u64, &mut tag);
+    slip.extend([0x7F, 0, 3 + tag_count as u8, algorithm as u8, padding as u8, m as u8]);
     slip.extend(&tag[..tag_count as usize]);
 
     let length = slip.len() as u64;

@@ -4,7 +4,7 @@
 //!
 //! Programs: `tag` (one tag), `slip` (one slip), `cases` (generated cases), `commands` (generated command lines), `answer`
 //! (answers to command lines), `random` (the output of the gate's `run_random`), `speed` (the baseline).
-#![allow(clippy::manual_is_multiple_of, clippy::too_many_arguments)]
+#![allow(clippy::manual_is_multiple_of)]
 
 pub mod call;
 pub mod cases;
@@ -16,7 +16,7 @@ pub mod sm4;
 #[cfg(test)]
 mod tests;
 
-pub use call::{check, make, Answer};
+pub use call::{check, make, Agreement, Answer};
 
 /// Upper case hex digits.
 pub fn hex(bytes: &[u8]) -> String {

@@ -1,6 +1,6 @@
 //! Sessions: a record handed from call to call by value (01 "Numbered answers", open points 15 to 23).
 
-use crate::call::{settings_refusal, Answer, LIMIT};
+use crate::call::{settings_refusal, Agreement, Answer, LIMIT};
 use crate::mac::{truncate, two_keys, Engine};
 use crate::padding::{self, bytes_for};
 use crate::sm4::Block;
@@ -12,9 +12,7 @@ pub struct Record {
     pub phase: u64,
     /// The bits of the part byte, 1 to 7, in phase 2; else 0.
     pub part: u64,
-    pub algorithm: u64,
-    pub padding: u64,
-    pub m: u64,
+    pub agreement: Agreement,
     /// Stored under padding 3 only, else 0.
     pub declared: u64,
     /// The bits fed so far.
@@ -29,7 +27,7 @@ pub struct Record {
 
 impl Record {
     fn keys_in_use(&self) -> &[u8] {
-        &self.keys[..if two_keys(self.algorithm) { 32 } else { 16 }]
+        &self.keys[..if two_keys(self.agreement.algorithm) { 32 } else { 16 }]
     }
 
     /// Message blocks enciphered so far: all full ones but the waiting block.
@@ -50,37 +48,39 @@ impl Record {
             _ => false,
         };
         state_fits
-            && settings_refusal(self.algorithm, self.padding, self.m, self.keys_in_use()) == 0
+            && settings_refusal(self.agreement, self.keys_in_use()) == 0
             && self.total <= LIMIT
-            && (self.padding != 3 || self.declared <= LIMIT && self.total <= self.declared)
+            && (self.agreement.padding != 3 || self.declared <= LIMIT && self.total <= self.declared)
             && u128::from_be_bytes(self.held).checked_shl(self.held_bits() as u32).unwrap_or(0) == 0
     }
 
     /// Enciphers the waiting block into the chain.
     fn push(&mut self, engine: &mut Engine, block_is_first: bool) {
-        let first = block_is_first && self.padding != 3;
+        let first = block_is_first && self.agreement.padding != 3;
         self.chain = engine.step(first, &self.chain, &self.held);
         self.held = [0; 16];
     }
 
     /// The calls made by the start and the pieces that led to this record.
     fn calls_before(&self) -> u64 {
-        let blocks = self.chained() + u64::from(self.padding == 3);
-        blocks + u64::from(self.algorithm == 8) + u64::from(self.algorithm == 4 && blocks > 0)
+        let Agreement { algorithm, padding, .. } = self.agreement;
+        let blocks = self.chained() + u64::from(padding == 3);
+        blocks + u64::from(algorithm == 8) + u64::from(algorithm == 4 && blocks > 0)
     }
 }
 
 /// Starts a session; `declared` is read with padding 3 only. Refusals 1 to 6, then 8.
 /// An accepted start, like an accepted piece, answers number 0, yes 0, calls 0.
-pub fn start(algorithm: u64, padding: u64, m: u64, keys: &[u8], declared: u64) -> (Record, Answer) {
-    let number = match settings_refusal(algorithm, padding, m, keys) {
+pub fn start(agreement: Agreement, keys: &[u8], declared: u64) -> (Record, Answer) {
+    let Agreement { algorithm, padding, .. } = agreement;
+    let number = match settings_refusal(agreement, keys) {
         0 if padding == 3 && declared > LIMIT => 8,
         number => number,
     };
     if number != 0 {
         return (Record::default(), Answer::refused(number));
     }
-    let mut record = Record { phase: 1, algorithm, padding, m, ..Record::default() };
+    let mut record = Record { phase: 1, agreement, ..Record::default() };
     record.keys[..keys.len()].copy_from_slice(keys);
     let mut engine = Engine::new(algorithm, keys);
     record.chain = engine.begin();
@@ -98,7 +98,7 @@ fn piece_refusal(record: &Record, bytes: &[u8], bits: u64) -> u64 {
         7
     } else if bits > LIMIT - record.total {
         8
-    } else if record.padding == 3 && bits > record.declared - record.total {
+    } else if record.agreement.padding == 3 && bits > record.declared - record.total {
         12
     } else {
         0
@@ -112,7 +112,7 @@ pub fn piece(record: Record, bytes: &[u8], bits: u64) -> (Record, Answer) {
         return (record, Answer::refused(number));
     }
     let mut next = record;
-    let mut engine = Engine::new(next.algorithm, next.keys_in_use());
+    let mut engine = Engine::new(next.agreement.algorithm, next.keys_in_use());
     let mut left = bits;
     for byte in bytes {
         if padding::complete(next.total) {
@@ -130,13 +130,14 @@ pub fn piece(record: Record, bytes: &[u8], bits: u64) -> (Record, Answer) {
 }
 
 fn finish_refusal(record: &Record, room: u64) -> u64 {
+    let Agreement { algorithm, padding, m } = record.agreement;
     if !record.is_open() {
         11
-    } else if record.padding == 3 && record.total < record.declared {
+    } else if padding == 3 && record.total < record.declared {
         12
-    } else if record.algorithm == 4 && padding::q(record.padding, record.total) < 2 {
+    } else if algorithm == 4 && padding::q(padding, record.total) < 2 {
         9
-    } else if room < bytes_for(record.m) {
+    } else if room < bytes_for(m) {
         10
     } else {
         0
@@ -149,18 +150,19 @@ pub fn finish(record: Record, tag: &mut [u8]) -> (Record, Answer) {
     if number != 0 {
         return (record, Answer::refused(number));
     }
+    let Agreement { algorithm, padding, m } = record.agreement;
     let before = record.calls_before();
     let mut last = record;
-    let mut engine = Engine::new(last.algorithm, last.keys_in_use());
+    let mut engine = Engine::new(algorithm, last.keys_in_use());
     let complete = padding::complete(last.total);
-    if last.padding == 2 && complete {
+    if padding == 2 && complete {
         last.push(&mut engine, record.total == 128);
     }
-    if padding::marked(last.padding, last.total) {
+    if padding::marked(padding, last.total) {
         padding::set_bit(&mut last.held, last.total % 128);
     }
     let g = engine.last(complete, &last.chain, &last.held);
-    let size = bytes_for(last.m) as usize;
-    tag[..size].copy_from_slice(&truncate(last.algorithm, last.m, last.total, &g)[..size]);
+    let size = bytes_for(m) as usize;
+    tag[..size].copy_from_slice(&truncate(algorithm, m, last.total, &g)[..size]);
     (Record::default(), Answer { number: 0, yes: 1, calls: before + engine.calls })
 }

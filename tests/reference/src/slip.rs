@@ -1,6 +1,6 @@
 //! The lot slip (01 "The lot slip", open points 24 to 26).
 
-use crate::call::check;
+use crate::call::{check, Agreement};
 use std::ops::RangeInclusive;
 
 /// An accepted slip has number 0 and its values; the lot is slip[lot_at..lot_at + lot_len].
@@ -71,7 +71,8 @@ fn parse(slip: &[u8], keys: &[u8]) -> Result<Slip, u64> {
     demand(slip.len() == seal_at + 3 + seal.len(), 24)?;
 
     let (covered, bits) = (&slip[..seal_at], 8 * seal_at as u64);
-    let answer = check(seal[0].into(), seal[1].into(), seal[2].into(), keys, covered, bits, &seal[3..]);
+    let agreement = Agreement { algorithm: seal[0].into(), padding: seal[1].into(), m: seal[2].into() };
+    let answer = check(agreement, keys, covered, bits, &seal[3..]);
     demand(answer.number == 0, answer.number)?;
     demand(answer.yes == 1, 30)?;
     let (lot_at, lot_len) = (lot_at as u64, lot.len() as u64);

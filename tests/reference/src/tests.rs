@@ -5,7 +5,7 @@ use crate::call::LIMIT;
 use crate::cases::{self, Random, Results, Settings};
 use crate::session::{finish, piece, start, Record};
 use crate::slip::{self as slips, read, Slip};
-use crate::{check, hex, mac, make, padding, sm4, unhex, Answer};
+use crate::{check, hex, mac, make, padding, sm4, unhex, Agreement, Answer};
 
 const K: &str = "0123456789ABCDEFFEDCBA9876543210";
 const KK: &str = "0123456789ABCDEFFEDCBA98765432104149D2ADED9456681EC8B511D9E7EE04";
@@ -20,6 +20,10 @@ fn block(text: &str) -> [u8; 16] {
     h(text).try_into().unwrap()
 }
 
+fn agreed(algorithm: u64, padding: u64, m: u64) -> Agreement {
+    Agreement { algorithm, padding, m }
+}
+
 fn number(number: u64) -> Answer {
     Answer { number, yes: 0, calls: 0 }
 }
@@ -29,20 +33,20 @@ fn done(calls: u64) -> Answer {
 }
 
 /// Makes into a buffer with a byte to spare, which must stay; the count must be that of real calls.
-fn made(a: u64, p: u64, m: u64, keys: &[u8], message: &[u8], bits: u64) -> (Answer, Vec<u8>) {
+fn made(agreement: Agreement, keys: &[u8], message: &[u8], bits: u64) -> (Answer, Vec<u8>) {
     let before = sm4::tests::CALLS.get();
     let mut tag = [0x5A; 17];
-    let answer = make(a, p, m, keys, message, bits, &mut tag);
+    let answer = make(agreement, keys, message, bits, &mut tag);
     assert_eq!(sm4::tests::CALLS.get() - before, answer.calls);
-    let size = if answer.number == 0 { padding::bytes_for(m) as usize } else { 0 };
+    let size = if answer.number == 0 { padding::bytes_for(agreement.m) as usize } else { 0 };
     assert!(tag[size..].iter().all(|byte| *byte == 0x5A));
     (answer, tag[..size].to_vec())
 }
 
 /// The same through a session, cut into pieces of these many bits; all pieces must be accepted.
-fn in_session(s: (u64, u64, u64), keys: &[u8], message: &[u8], cuts: &[u64]) -> (Answer, Vec<u8>) {
+fn in_session(agreement: Agreement, keys: &[u8], message: &[u8], cuts: &[u64]) -> (Answer, Vec<u8>) {
     let before = sm4::tests::CALLS.get();
-    let (mut record, answer) = start(s.0, s.1, s.2, keys, cuts.iter().sum());
+    let (mut record, answer) = start(agreement, keys, cuts.iter().sum());
     assert_eq!(answer, number(0));
     let mut at = 0;
     for cut in cuts {
@@ -55,7 +59,7 @@ fn in_session(s: (u64, u64, u64), keys: &[u8], message: &[u8], cuts: &[u64]) -> 
     let mut tag = [0x5A; 17];
     let (closed, answer) = finish(record, &mut tag);
     assert_eq!((closed, sm4::tests::CALLS.get() - before), (Record::default(), answer.calls));
-    let size = padding::bytes_for(s.2) as usize;
+    let size = padding::bytes_for(agreement.m) as usize;
     assert!(tag[size..].iter().all(|byte| *byte == 0x5A));
     (answer, tag[..size].to_vec())
 }
@@ -148,10 +152,10 @@ fn borders() {
     assert_eq!(mac::leftmost(12, &block("0ABC5678000000000000000000000000"))[..3], [0x0A, 0xB0, 0]);
     assert_eq!(mac::rightmost(12, &block("00000000000000000000000000560ABC"))[..3], [0xAB, 0xC0, 0]);
     assert_eq!((mac::turn(true, &low), mac::turn(false, &one)), (one, low));
-    assert_eq!(made(3, 1, 64, &h(KK), &[7; 48], 384).0, done(5));
+    assert_eq!(made(agreed(3, 1, 64), &h(KK), &[7; 48], 384).0, done(5));
     // spare bits have no influence, under any padding
     for p in 1..=3 {
-        assert_eq!(made(1, p, 128, &h(K), &[0xFF], 1), made(1, p, 128, &h(K), &[0x80], 1));
+        assert_eq!(made(agreed(1, p, 128), &h(K), &[0xFF], 1), made(agreed(1, p, 128), &h(K), &[0x80], 1));
     }
 }
 
@@ -204,17 +208,17 @@ fn annex_a_tags_in_one_call() {
         let (g, counted) = mac::output(a, p, &v.keys, v.data, v.bits);
         assert_eq!((g.to_vec(), counted), (v.g.clone(), calls));
         for (m, tag) in wanted(&v) {
-            assert_eq!(made(a, p, m, &v.keys, v.data, v.bits), (done(calls), tag.clone()));
-            assert_eq!(check(a, p, m, &v.keys, v.data, v.bits, &tag), done(calls));
+            assert_eq!(made(agreed(a, p, m), &v.keys, v.data, v.bits), (done(calls), tag.clone()));
+            assert_eq!(check(agreed(a, p, m), &v.keys, v.data, v.bits, &tag), done(calls));
             for bit in 0..8 * tag.len() {
                 let mut turned = tag.clone();
                 turned[bit / 8] ^= 0x80 >> (bit % 8);
                 let no = Answer { number: 0, yes: 0, calls };
-                assert_eq!(check(a, p, m, &v.keys, v.data, v.bits, &turned), no, "bit {bit}");
+                assert_eq!(check(agreed(a, p, m), &v.keys, v.data, v.bits, &turned), no, "bit {bit}");
             }
         }
         if a == 7 {
-            assert_eq!(made(a, p, 64, &v.keys, v.data, v.bits).0, number(3));
+            assert_eq!(made(agreed(a, p, 64), &v.keys, v.data, v.bits).0, number(3));
         }
     }
 }
@@ -223,17 +227,17 @@ fn annex_a_tags_in_one_call() {
 fn annex_a_tags_in_sessions() {
     for v in annex_a() {
         for (m, tag) in wanted(&v) {
-            let (s, one_call) =
-                ((v.algorithm, v.padding, m), made(v.algorithm, v.padding, m, &v.keys, v.data, v.bits));
+            let agreement = agreed(v.algorithm, v.padding, m);
+            let one_call = made(agreement, &v.keys, v.data, v.bits);
             assert_eq!(one_call.1, tag);
-            assert_eq!(in_session(s, &v.keys, v.data, &vec![8; v.data.len()]), one_call);
+            assert_eq!(in_session(agreement, &v.keys, v.data, &vec![8; v.data.len()]), one_call);
             for cut in 0..=v.bits {
                 if cut % 8 == 0 {
-                    assert_eq!(in_session(s, &v.keys, v.data, &[cut, v.bits - cut]), one_call);
+                    assert_eq!(in_session(agreement, &v.keys, v.data, &[cut, v.bits - cut]), one_call);
                     continue;
                 }
                 // after a part byte no more bits are taken
-                let open = start(s.0, s.1, s.2, &v.keys, v.bits).0;
+                let open = start(agreement, &v.keys, v.bits).0;
                 let open = piece(open, &v.data[..cut as usize / 8 + 1], cut).0;
                 assert_eq!((open.phase, open.part), (2, cut % 8));
                 assert_eq!(piece(open, &v.data[..1], 8), (open, number(11)));
@@ -263,11 +267,11 @@ fn appendix_r3_to_r5() {
         (1, 1, 128, one, b"abc", 24, "9054FCCFF72871FDAD5202C821DBEA05", 1),
     ];
     for (a, p, m, keys, message, bits, tag, calls) in rows {
-        assert_eq!(made(a, p, m, keys, message, bits), (done(calls), h(tag)));
-        assert_eq!(in_session((a, p, m), keys, message, &[bits]), (done(calls), h(tag)));
+        assert_eq!(made(agreed(a, p, m), keys, message, bits), (done(calls), h(tag)));
+        assert_eq!(in_session(agreed(a, p, m), keys, message, &[bits]), (done(calls), h(tag)));
     }
     for data in DATA {
-        assert_eq!(made(7, 4, 64, one, data, 8 * data.len() as u64).0, number(3));
+        assert_eq!(made(agreed(7, 4, 64), one, data, 8 * data.len() as u64).0, number(3));
     }
 }
 
@@ -275,25 +279,28 @@ fn appendix_r3_to_r5() {
 fn appendix_r7_the_limit() {
     let long = vec![0; 1_048_577];
     let full = &long[..1_048_576];
-    let (answer, tag) = made(1, 1, 128, &h(K), full, LIMIT);
+    let (answer, tag) = made(agreed(1, 1, 128), &h(K), full, LIMIT);
     assert_eq!((answer, hex(&tag)), (done(65_536), "52E7B8DB5C984966E56E4943745D6392".into()));
-    assert_eq!(made(1, 1, 128, &h(K), &long, LIMIT + 1).0, number(8));
-    assert_eq!(made(1, 1, 128, &h(K), full, LIMIT + 1).0, number(7));
-    assert_eq!(in_session((1, 1, 128), &h(K), full, &[8 * 333_333, LIMIT - 8 * 333_333]), (answer, tag));
-    let open = piece(start(1, 1, 128, &h(K), 0).0, full, LIMIT).0;
+    assert_eq!(made(agreed(1, 1, 128), &h(K), &long, LIMIT + 1).0, number(8));
+    assert_eq!(made(agreed(1, 1, 128), &h(K), full, LIMIT + 1).0, number(7));
+    assert_eq!(
+        in_session(agreed(1, 1, 128), &h(K), full, &[8 * 333_333, LIMIT - 8 * 333_333]),
+        (answer, tag)
+    );
+    let open = piece(start(agreed(1, 1, 128), &h(K), 0).0, full, LIMIT).0;
     assert_eq!(piece(open, &[0], 1), (open, number(8)));
-    assert_eq!(start(1, 3, 128, &h(K), LIMIT).1, number(0));
-    assert_eq!(start(1, 3, 128, &h(K), LIMIT + 1), (Record::default(), number(8)));
-    assert_eq!(start(1, 2, 128, &h(K), u64::MAX).0.declared, 0);
+    assert_eq!(start(agreed(1, 3, 128), &h(K), LIMIT).1, number(0));
+    assert_eq!(start(agreed(1, 3, 128), &h(K), LIMIT + 1), (Record::default(), number(8)));
+    assert_eq!(start(agreed(1, 2, 128), &h(K), u64::MAX).0.declared, 0);
 }
 
 #[test]
 fn algorithm_4_needs_two_blocks() {
     for (p, bits, wanted) in [(1, 128, 9), (1, 129, 0), (2, 127, 9), (2, 128, 0), (3, 0, 0)] {
         let message = vec![3; padding::bytes_for(bits) as usize];
-        assert_eq!(made(4, p, 64, &h(KK), &message, bits).0.number, wanted);
+        assert_eq!(made(agreed(4, p, 64), &h(KK), &message, bits).0.number, wanted);
     }
-    let (open, _) = piece(start(4, 1, 64, &h(KK), 0).0, &[3; 16], 128);
+    let (open, _) = piece(start(agreed(4, 1, 64), &h(KK), 0).0, &[3; 16], 128);
     assert_eq!(finish(open, &mut [0; 16]), (open, number(9)));
     let (open, answer) = piece(open, &[0x80], 1);
     assert_eq!((answer, finish(open, &mut [0; 16]).1), (number(0), done(4)));
@@ -331,25 +338,25 @@ fn order_of_refusals_in_one_call() {
     ];
     for (i, (a, p, m, keys, message, bits, room, wanted)) in rows.into_iter().enumerate() {
         let mut tag = [0x5A; 16];
-        assert_eq!(make(a, p, m, keys, message, bits, &mut tag[..room]), number(wanted), "row {i}");
-        assert_eq!(check(a, p, m, keys, message, bits, &tag[..room]), number(wanted), "row {i}");
+        assert_eq!(make(agreed(a, p, m), keys, message, bits, &mut tag[..room]), number(wanted), "row {i}");
+        assert_eq!(check(agreed(a, p, m), keys, message, bits, &tag[..room]), number(wanted), "row {i}");
         assert_eq!(tag, [0x5A; 16]);
         if wanted <= 6 {
             // the same at a session's start, with 8 as a further fault
-            let refused = start(a, p, m, keys, u64::MAX);
+            let refused = start(agreed(a, p, m), keys, u64::MAX);
             assert_eq!(refused, (Record::default(), number(wanted)), "row {i}");
         }
     }
-    assert_eq!(start(4, 3, 64, &same, LIMIT + 1).1, number(5));
-    assert_eq!(make(2, 1, 64, &twisted, &[0], 8, &mut [0; 8]), done(2)); // K = K'' matters to 4 alone
-    assert_eq!(make(3, 1, 64, &same, &[0], 8, &mut [0; 8]), done(3));
-    assert_eq!(check(1, 1, 64, &kk[..16], &[0], 8, &[0; 9]), number(10));
+    assert_eq!(start(agreed(4, 3, 64), &same, LIMIT + 1).1, number(5));
+    assert_eq!(make(agreed(2, 1, 64), &twisted, &[0], 8, &mut [0; 8]), done(2)); // K = K'' matters to 4 alone
+    assert_eq!(make(agreed(3, 1, 64), &same, &[0], 8, &mut [0; 8]), done(3));
+    assert_eq!(check(agreed(1, 1, 64), &kk[..16], &[0], 8, &[0; 9]), number(10));
 }
 
 #[test]
 fn order_of_refusals_in_sessions() {
-    let fresh = start(1, 3, 64, &h(K), 16).0;
-    let part = piece(start(1, 1, 64, &h(K), 0).0, &[0xFF], 3).0;
+    let fresh = start(agreed(1, 3, 64), &h(K), 16).0;
+    let part = piece(start(agreed(1, 1, 64), &h(K), 0).0, &[0xFF], 3).0;
     assert_eq!((part.phase, part.part, part.held[0]), (2, 3, 0xE0));
     assert_eq!(piece(part, &[], 1), (part, number(11))); // before 7
     assert_eq!(piece(part, &[], 0), (part, number(0)));
@@ -361,25 +368,25 @@ fn order_of_refusals_in_sessions() {
     assert_eq!(piece(fresh, &[0, 0, 0], 17), (fresh, number(12)));
     assert_eq!(finish(Record { total: 24, ..fresh }, &mut []).1, number(11)); // before 12
     assert_eq!(finish(fresh, &mut []), (fresh, number(12))); // before 10
-    let four = start(4, 2, 64, &h(KK), 0).0;
+    let four = start(agreed(4, 2, 64), &h(KK), 0).0;
     assert_eq!(finish(four, &mut []), (four, number(9))); // before 10
     let full = piece(fresh, &[1, 2], 16).0;
     assert_eq!(finish(full, &mut [0; 7]), (full, number(10)));
     let (closed, answer) = finish(full, &mut [0; 8]);
     assert_eq!((closed, answer), (Record::default(), done(2)));
     assert_eq!(finish(closed, &mut []), (closed, number(11)));
-    let none = start(1, 3, 128, &h(K), 0).0; // declared 0
+    let none = start(agreed(1, 3, 128), &h(K), 0).0; // declared 0
     assert_eq!(piece(none, &[0], 1), (none, number(12)));
     assert_eq!(finish(none, &mut [0; 16]).1, done(2));
 }
 
 #[test]
 fn forged_records() {
-    let open = piece(start(1, 1, 64, &h(K), 0).0, &[0xE0, 0], 16).0;
-    let part = piece(start(1, 1, 64, &h(K), 0).0, &[0xE0], 3).0;
-    let declared = piece(start(1, 3, 64, &h(K), 40).0, &[0], 8).0;
-    let two = piece(start(2, 1, 64, &h(KK), 0).0, &[0; 17], 136).0;
-    let four = Record { algorithm: 4, ..two };
+    let open = piece(start(agreed(1, 1, 64), &h(K), 0).0, &[0xE0, 0], 16).0;
+    let part = piece(start(agreed(1, 1, 64), &h(K), 0).0, &[0xE0], 3).0;
+    let declared = piece(start(agreed(1, 3, 64), &h(K), 40).0, &[0], 8).0;
+    let two = piece(start(agreed(2, 1, 64), &h(KK), 0).0, &[0; 17], 136).0;
+    let four = Record { agreement: agreed(4, 1, 64), ..two };
     let mut same_keys = two;
     same_keys.keys.copy_within(..16, 16);
     let mut twisted = four;
@@ -388,7 +395,8 @@ fn forged_records() {
     let mut second = free;
     second.keys[16..].copy_from_slice(&[9; 16]);
     let held = |byte, record: Record| Record { held: [byte; 16], ..record };
-    let good = [open, part, declared, two, four, free, second, Record { algorithm: 2, ..twisted }];
+    let good =
+        [open, part, declared, two, four, free, second, Record { agreement: agreed(2, 1, 64), ..twisted }];
     let edges = [Record { total: 128, ..held(0xFF, open) }, Record { total: LIMIT, ..held(0xFF, open) }];
     for record in good.into_iter().chain(edges) {
         assert!(record.is_open());
@@ -408,16 +416,16 @@ fn forged_records() {
         Record { part: 4, ..part },
         Record { part: 11, ..part },
         Record { total: 11, part: 11, ..part },
-        Record { algorithm: 0, ..open },
-        Record { algorithm: 9, ..open },
-        Record { padding: 0, ..open },
-        Record { padding: 4, ..open },
-        Record { m: 0, ..open },
-        Record { m: 129, ..open },
-        Record { algorithm: 7, padding: 4, ..open },
+        Record { agreement: agreed(0, 1, 64), ..open },
+        Record { agreement: agreed(9, 1, 64), ..open },
+        Record { agreement: agreed(1, 0, 64), ..open },
+        Record { agreement: agreed(1, 4, 64), ..open },
+        Record { agreement: agreed(1, 1, 0), ..open },
+        Record { agreement: agreed(1, 1, 129), ..open },
+        Record { agreement: agreed(7, 4, 64), ..open },
         same_keys,
-        Record { algorithm: 4, ..same_keys },
-        Record { algorithm: 6, ..same_keys },
+        Record { agreement: agreed(4, 1, 64), ..same_keys },
+        Record { agreement: agreed(6, 1, 64), ..same_keys },
         twisted,
         Record { total: LIMIT + 8, ..held(0, open) },
         Record { total: u64::MAX - 7, ..held(0, open) },
@@ -449,9 +457,10 @@ fn forged_records() {
     // the chain value is free, and the finish works from it; algorithm 4's first block is xored with it
     let chained = Record { total: 8, chain: [1; 16], held: [0; 16], ..open };
     let mut tag = [0; 16];
-    assert_eq!(finish(Record { m: 128, ..chained }, &mut tag).1, done(1));
+    assert_eq!(finish(Record { agreement: agreed(1, 1, 128), ..chained }, &mut tag).1, done(1));
     assert_eq!(tag, sm4::encrypt(&sm4::round_keys(&block(K)), &[1; 16]));
-    let zero_chain = Record { m: 128, total: 128, held: [6; 16], chain: [0; 16], padding: 2, ..four };
+    let zero_chain =
+        Record { agreement: agreed(4, 2, 128), total: 128, held: [6; 16], chain: [0; 16], ..four };
     let other = Record { held: [0; 16], chain: [6; 16], ..zero_chain };
     let mut second_tag = [0; 16];
     assert_eq!(finish(zero_chain, &mut tag).1, finish(other, &mut second_tag).1);
@@ -467,7 +476,7 @@ fn random_sessions_agree_with_one_call() {
         let s = Settings::draw(&mut random);
         let (bits, bytes) = cases::message(&mut random);
         let message = &bytes[..padding::bytes_for(bits) as usize];
-        let one_call = made(s.algorithm, s.padding, s.m, s.keys(), message, bits);
+        let one_call = made(s.agreement, s.keys(), message, bits);
         if one_call.0.number != 0 {
             continue;
         }
@@ -480,7 +489,7 @@ fn random_sessions_agree_with_one_call() {
         if left % 8 != 0 {
             cuts.pop(); // `in_session` would look for the empty piece's bytes past a part byte
         }
-        assert_eq!(in_session((s.algorithm, s.padding, s.m), s.keys(), message, &cuts), one_call);
+        assert_eq!(in_session(s.agreement, s.keys(), message, &cuts), one_call);
         agreed += 1;
     }
 }
@@ -494,7 +503,7 @@ fn refused(number: u64) -> Slip {
 
 /// Slip bytes with a right seal of algorithm 5 over whatever stands before it.
 fn sealed(covered: &[u8]) -> Vec<u8> {
-    let tag = made(5, 4, 64, &h(K), covered, 8 * covered.len() as u64).1;
+    let tag = made(agreed(5, 4, 64), &h(K), covered, 8 * covered.len() as u64).1;
     [covered, &h("7F000B050440"), &tag].concat()
 }
 
@@ -584,7 +593,7 @@ fn slips_changed_and_cut() {
     let covered = h(COVERED);
     for lot in [b'7', b'8', b'9'] {
         let covered = [&covered[..15], &[lot], &covered[16..]].concat();
-        let tag = made(5, 4, 128, &h(K), &covered, 184).1;
+        let tag = made(agreed(5, 4, 128), &h(K), &covered, 184).1;
         let slip = [covered, h("7F0013050480"), tag.clone()].concat();
         let open = tag[15] % 2 == 0;
         assert_eq!(read(&slip, &h(K)).number, 0);

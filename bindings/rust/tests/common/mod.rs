@@ -1,7 +1,7 @@
 //! Keys, messages and annex A, for all tests.
 #![allow(dead_code)] // each test file uses its own part
 
-use slipseal::Settings;
+use slipseal::Agreement;
 
 pub const MESSAGE: &[u8; 32] = b"This is the test message for mac";
 
@@ -20,13 +20,13 @@ pub fn keys() -> Vec<u8> {
     hex("0123456789ABCDEFFEDCBA9876543210 4149D2ADED9456681EC8B511D9E7EE04")
 }
 
-pub fn settings(algorithm: usize, padding: usize, m: usize) -> Settings {
-    Settings { algorithm, padding, m }
+pub fn agreed(algorithm: u64, padding: u64, m: u64) -> Agreement {
+    Agreement { algorithm, padding, m }
 }
 
 pub struct Vector {
-    pub algorithm: usize,
-    pub padding: usize,
+    pub algorithm: u64,
+    pub padding: u64,
     pub message: &'static [u8],
     pub keys: Vec<u8>,
     pub tag: Vec<u8>,
@@ -50,8 +50,8 @@ pub fn annex_a() -> Vec<Vector> {
 }
 
 /// The cipher calls by document 01's table.
-pub fn calls(algorithm: usize, padding: usize, bits: usize) -> u64 {
+pub fn calls(algorithm: u64, padding: u64, bits: usize) -> u64 {
     let filled = bits.div_ceil(128).max(1);
-    let q = [filled, bits / 128 + 1, filled + 1, filled][padding - 1];
-    (q + [0, 1, 2, 2, 1, 0, 0, 1][algorithm - 1]) as u64
+    let q = [filled, bits / 128 + 1, filled + 1, filled][padding as usize - 1];
+    (q + [0, 1, 2, 2, 1, 0, 0, 1][algorithm as usize - 1]) as u64
 }

@@ -4,7 +4,7 @@
 
 use differential::library;
 use reference::cases::Random;
-use reference::hex;
+use reference::{hex, Agreement};
 use std::io::Write;
 use std::process::{Command, Stdio};
 
@@ -48,9 +48,9 @@ fn padded(padding: u64, message: &[u8]) -> Vec<u8> {
     out
 }
 
-fn made(settings: [u64; 3], key: &[u8], message: &[u8]) -> String {
+fn made(agreement: Agreement, key: &[u8], message: &[u8]) -> String {
     let mut tag = [0; 16];
-    let answer = library::make(settings, key, message, 8 * message.len() as u64, &mut tag);
+    let answer = library::make(agreement, key, message, 8 * message.len() as u64, &mut tag);
     assert_eq!(answer.number, 0);
     hex(&tag)
 }
@@ -76,19 +76,19 @@ fn main() {
         r.fill(&mut key);
         r.fill(&mut message);
         if has_mac {
-            let tag = made([5, 4, 128], &key, &message);
+            let tag = made(Agreement { algorithm: 5, padding: 4, m: 128 }, &key, &message);
             same("CMAC, algorithm 5", &key, &message, &tag, cmac(&key, &message));
             macs += 1;
         }
         if has_cipher {
             let padding = 1 + size as u64 % 3;
-            let tag = made([1, padding, 128], &key, &message);
+            let tag = made(Agreement { algorithm: 1, padding, m: 128 }, &key, &message);
             let what = format!("CBC, algorithm 1, padding {padding}");
             same(&what, &key, &message, &tag, last_block(&key, &padded(padding, &message)));
             chains += 1;
         }
         if has_cipher && size > 0 && size % 16 == 0 {
-            let tag = made([7, 4, 56], &key, &message);
+            let tag = made(Agreement { algorithm: 7, padding: 4, m: 56 }, &key, &message);
             let whole = last_block(&key, &message).map(|block| block[..14].to_string());
             same("CBC, algorithm 7", &key, &message, &tag[..14], whole);
             chains += 1;

@@ -12,7 +12,7 @@
 
 use reference::session::{self, Record};
 use reference::slip::{self, Tally};
-use reference::{check, hex, make, unhex, Answer};
+use reference::{check, hex, make, unhex, Agreement, Answer};
 use std::io::Read;
 
 const FILL: u8 = 0xEE;
@@ -20,6 +20,10 @@ const FILL: u8 = 0xEE;
 fn number(word: &str) -> Option<u64> {
     let digits = word.bytes().all(|c| c.is_ascii_digit());
     word.parse().ok().filter(|_| digits)
+}
+
+fn agreed(algorithm: &str, padding: &str, m: &str) -> Option<Agreement> {
+    Some(Agreement { algorithm: number(algorithm)?, padding: number(padding)?, m: number(m)? })
 }
 
 fn bytes(word: &str) -> Option<Vec<u8>> {
@@ -56,12 +60,11 @@ fn accepted(answer: Answer) -> String {
 }
 
 /// In how many of the sessions of two pieces, one for each byte to cut at, the tag and the calls come out.
-fn halves(settings: [u64; 3], keys: &[u8], message: &[u8], tag: &[u8], calls: u64) -> String {
-    let [a, p, m] = settings;
+fn halves(agreement: Agreement, keys: &[u8], message: &[u8], tag: &[u8], calls: u64) -> String {
     let bits = |bytes: &[u8]| 8 * bytes.len() as u64;
     let comes_out = |at: &usize| {
         let (one, two) = message.split_at(*at);
-        let (record, _) = session::start(a, p, m, keys, bits(message));
+        let (record, _) = session::start(agreement, keys, bits(message));
         let (record, _) = session::piece(record, one, bits(one));
         let (record, _) = session::piece(record, two, bits(two));
         let mut room = [FILL; 16];
@@ -115,13 +118,12 @@ impl State {
         match words[..] {
             ["make", a, p, m, keys, message, bits, size] => {
                 let (keys, message, mut room) = (bytes(keys)?, bytes(message)?, room(size)?);
-                let answer =
-                    make(number(a)?, number(p)?, number(m)?, &keys, &message, number(bits)?, &mut room);
+                let answer = make(agreed(a, p, m)?, &keys, &message, number(bits)?, &mut room);
                 Some(written(answer, &room))
             }
             ["check", a, p, m, keys, message, bits, tag] => {
                 let (keys, message, tag) = (bytes(keys)?, bytes(message)?, bytes(tag)?);
-                let answer = check(number(a)?, number(p)?, number(m)?, &keys, &message, number(bits)?, &tag);
+                let answer = check(agreed(a, p, m)?, &keys, &message, number(bits)?, &tag);
                 Some(match (answer.number, answer.yes) {
                     (0, 1) => format!("yes {} calls", answer.calls),
                     (0, _) => format!("no {} calls", answer.calls),
@@ -129,15 +131,14 @@ impl State {
                 })
             }
             ["halves", a, p, m, keys, message, tag, calls] => {
-                let settings = [number(a)?, number(p)?, number(m)?];
-                Some(halves(settings, &bytes(keys)?, &bytes(message)?, &bytes(tag)?, number(calls)?))
+                let agreement = agreed(a, p, m)?;
+                Some(halves(agreement, &bytes(keys)?, &bytes(message)?, &bytes(tag)?, number(calls)?))
             }
             ["slip", keys, slip] => Some(read(&bytes(slip)?, &bytes(keys)?)),
             ["changed", keys, slip] => Some(counted(slip::changed(&bytes(slip)?, &bytes(keys)?))),
             ["prefixes", keys, slip] => Some(counted(slip::prefixes(&bytes(slip)?, &bytes(keys)?))),
             ["start", a, p, m, keys, declared] => {
-                let (next, answer) =
-                    session::start(number(a)?, number(p)?, number(m)?, &bytes(keys)?, number(declared)?);
+                let (next, answer) = session::start(agreed(a, p, m)?, &bytes(keys)?, number(declared)?);
                 self.step(next, accepted(answer))
             }
             ["piece", part, bits] => {
@@ -156,9 +157,7 @@ impl State {
                 let next = Record {
                     phase,
                     part: if phase == 2 { part } else { 0 },
-                    algorithm: number(a)?,
-                    padding: number(p)?,
-                    m: number(m)?,
+                    agreement: agreed(a, p, m)?,
                     declared: number(declared)?,
                     total: number(total)?,
                     keys: [block(k)?, block(k1)?].concat().try_into().unwrap(),

@@ -7,7 +7,7 @@
 
 use reference::cases::{draw_slip, Random, Settings, BITS};
 use reference::padding::bytes_for;
-use reference::{hex, make};
+use reference::{hex, make, Agreement};
 
 fn word(bytes: &[u8]) -> String {
     if bytes.is_empty() {
@@ -40,12 +40,13 @@ fn call(r: &mut Random) {
     let room = near(r, s.tag_size());
     let offered = near(r, s.tag_size());
     let mut tag = [0xA5; 24];
-    make(s.algorithm, s.padding, s.m, s.keys(), &message, bits, &mut tag);
+    make(s.agreement, s.keys(), &message, bits, &mut tag);
     if r.below(3) == 0 {
         let turn = r.below(8 * s.tag_size()) as usize;
         tag[turn / 8] ^= 0x80 >> (turn % 8);
     }
-    let call = format!("{} {} {} {} {} {bits}", s.algorithm, s.padding, s.m, word(s.keys()), word(&message));
+    let Agreement { algorithm, padding, m } = s.agreement;
+    let call = format!("{algorithm} {padding} {m} {} {} {bits}", word(s.keys()), word(&message));
     println!("make {call} {room}");
     println!("check {call} {}", word(&tag[..offered]));
 }

@@ -36,7 +36,7 @@
 use reference::mac::two_keys;
 use reference::padding::bytes_for;
 use reference::session::{self, Record};
-use reference::{check, hex, make, slip};
+use reference::{check, hex, make, slip, Agreement};
 
 type Bytes = [u8; 192];
 
@@ -59,9 +59,7 @@ fn draw(x: &mut u64) -> Bytes {
 struct Case {
     b: Bytes,
     line: String,
-    algorithm: u64,
-    padding: u64,
-    m: u64,
+    agreement: Agreement,
     key_count: u64,
 }
 
@@ -79,7 +77,8 @@ impl Case {
             _ if two_keys(algorithm) => 32,
             _ => 16,
         };
-        Case { b, line: String::new(), algorithm, padding, m: b2 % 131, key_count }
+        let agreement = Agreement { algorithm, padding, m: b2 % 131 };
+        Case { b, line: String::new(), agreement, key_count }
     }
 
     fn at(&self, i: usize) -> u64 {
@@ -131,16 +130,16 @@ fn call(c: &mut Case) {
     let message = c.part(48, given);
     let mut room = [0xEE; 24];
     let size = c.room_size();
-    let made = make(c.algorithm, c.padding, c.m, &c.keys(), &message, bits, &mut room[..size]);
+    let made = make(c.agreement, &c.keys(), &message, bits, &mut room[..size]);
     c.number(made.number);
     c.number(made.calls);
-    c.room(made.number, c.m, &room);
+    c.room(made.number, c.agreement.m, &room);
     if c.b[11] >= 180 {
         room[c.b[10] as usize % 16] ^= c.b[180];
     }
-    let offered = bytes_for(c.m) + u64::from(c.at(9) >= 240);
+    let offered = bytes_for(c.agreement.m) + u64::from(c.at(9) >= 240);
     let offered = &room[..offered.min(16) as usize];
-    let checked = check(c.algorithm, c.padding, c.m, &c.keys(), &message, bits, offered);
+    let checked = check(c.agreement, &c.keys(), &message, bits, offered);
     for number in [checked.number, checked.yes, checked.calls] {
         c.number(number);
     }
@@ -151,9 +150,9 @@ fn forged(mut r: Record, kind: u64, value: u64) -> Record {
     match kind {
         0..3 => r.phase = value % 4,
         3..6 => r.part = value % 9,
-        6..9 => r.algorithm = value % 10,
-        9..12 => r.padding = value % 6,
-        12..15 => r.m = value,
+        6..9 => r.agreement.algorithm = value % 10,
+        9..12 => r.agreement.padding = value % 6,
+        12..15 => r.agreement.m = value,
         15..18 => r.declared = 8_388_609 - value % 2,
         18..21 => r.total = 8 * value,
         21..25 => r.total = 8_388_608 - value % 4 * 64,
@@ -165,7 +164,7 @@ fn forged(mut r: Record, kind: u64, value: u64) -> Record {
 }
 
 fn session(c: &mut Case) {
-    let (mut record, begun) = session::start(c.algorithm, c.padding, c.m, &c.keys(), 3 * c.at(7));
+    let (mut record, begun) = session::start(c.agreement, &c.keys(), 3 * c.at(7));
     c.number(begun.number);
     for j in 0..5 {
         let (kind, count, value) = (c.at(160 + 4 * j), c.at(161 + 4 * j) % 41, c.at(162 + 4 * j));
@@ -179,7 +178,7 @@ fn session(c: &mut Case) {
         c.number(answer.number);
         record = next;
     }
-    let left = if record.padding == 3 { record.declared.saturating_sub(record.total) } else { 0 };
+    let left = if record.agreement.padding == 3 { record.declared.saturating_sub(record.total) } else { 0 };
     let left = if left > 768 { 0 } else { left };
     let (record, answer) = session::piece(record, &c.part(48, bytes_for(left)), left);
     c.number(answer.number);
@@ -188,7 +187,7 @@ fn session(c: &mut Case) {
     let (_, answer) = session::finish(record, &mut room[..c.room_size()]);
     c.number(answer.number);
     c.number(answer.calls);
-    c.room(answer.number, record.m, &room);
+    c.room(answer.number, record.agreement.m, &room);
 }
 
 fn lot_slip(c: &mut Case) {
@@ -199,9 +198,10 @@ fn lot_slip(c: &mut Case) {
     bytes.extend([b'L', c.b[8] % 96 + 32, b'T', b'-', b'1', b'7']);
     bytes.extend([3, 0, 4, 0, c.b[9] % 16, c.b[10], c.b[11]]);
     let mut tag = [0; 16];
-    make(c.algorithm, c.padding, c.m, &c.keys(), &bytes, 216, &mut tag);
-    let size = bytes_for(c.m) as u8;
-    bytes.extend([0x7F, 0, size + 3, c.algorithm as u8, c.padding as u8, c.m as u8]);
+    let Agreement { algorithm, padding, m } = c.agreement;
+    make(c.agreement, &c.keys(), &bytes, 216, &mut tag);
+    let size = bytes_for(m) as u8;
+    bytes.extend([0x7F, 0, size + 3, algorithm as u8, padding as u8, m as u8]);
     bytes.extend(tag);
     if c.b[14] >= 180 {
         bytes[c.b[13] as usize % 49] ^= c.b[180];

@@ -24,9 +24,10 @@ fn main() {
         }
     });
     for (algorithm, padding, key_bytes) in [(1, 1, 16), (4, 2, 32), (5, 4, 16)] {
+        let agreement = reference::Agreement { algorithm, padding, m: 128 };
         let mut tag = [0; 16];
         measure(&format!("algorithm {algorithm}, padding {padding}"), || {
-            reference::make(algorithm, padding, 128, &keys[..key_bytes], &message, 1 << 23, &mut tag);
+            reference::make(agreement, &keys[..key_bytes], &message, 1 << 23, &mut tag);
         });
     }
     println!("{}", reference::hex(&block)); // keeps the work
