@@ -147,7 +147,7 @@ beq-eq true false e = absurd (false≢true e)
 beq-eq false true e = absurd (false≢true e)
 beq-eq false false e = refl
 
-and-both : (a b : Bool) → a && b ≡ true → (a ≡ true) × (b ≡ true)
+pub and-both : (a b : Bool) → a && b ≡ true → (a ≡ true) × (b ≡ true)
 and-both true b e = (refl, e)
 and-both false b e = absurd (false≢true e)
 

@@ -4,6 +4,7 @@
 use mathlib.Core.Bool.{Bool, true, false, _&&_, cond, not, xor, Bool·beq}
 use mathlib.Core.List.{List, [], _∷_, _++_, map, flatMap, zipWith}
 use Prim.Native.Nat.{ℕ, zero, suc, _+_, _-_, _*_, _/_, _%_, _^_}
+use lib.Dec.{eqb}
 use lib.ListN.{length, take, drop, getD, replicate}
 use Rattle.bits.specs.Choice.{pick}
 
@@ -30,6 +31,13 @@ numOf (b ∷ w) = cond b 1 0 * 2 ^ length w + numOf w
 -- bytes one after the other, eight bits each
 unfoldable pub bytesBits : List ℕ → Bits
 bytesBits xs = flatMap (bitsN 8) xs
+
+-- whether two rows of bytes are the same
+unfoldable pub sameBytes : List ℕ → List ℕ → Bool
+sameBytes [] [] = true
+sameBytes [] (y ∷ ys) = false
+sameBytes (x ∷ xs) [] = false
+sameBytes (x ∷ xs) (y ∷ ys) = eqb x y && sameBytes xs ys
 
 -- numbers as words of 32 bits
 unfoldable pub words : List ℕ → List Bits

@@ -1,4 +1,5 @@
--- What an answer says in document 01's words: for every case its number (0 where nothing is refused) and the calls it reports.
+-- What an answer says in document 01's words: for every case of `Outcome` and of `Checked` its number (0 where nothing is refused), and
+-- the calls that an outcome reports.
 -- Assumes nothing.
 use Prim.Native.Nat.{ℕ}
 use lib.Dec.{eqb}
@@ -35,3 +36,7 @@ unfoldable pub checkedOf : Agreement → ℕ → Keys → Checked
 checkedOf A n K =
     let no = settingsRefusal A n K in
     pick (eqb no 0) (Sound (settingsOf A)) (Unsound no)
+
+unfoldable pub checkedNumber : Checked → ℕ
+checkedNumber (Sound S) = 0
+checkedNumber (Unsound number) = number

@@ -64,7 +64,7 @@ answer c =
     let start = at .before .before .before .before in
     let a = start .args in
     checked-is (a .s) (keyBits (a .keys)) (a .message .now) (a .bits) (at .refusal .result) _ _ _ (made .before .if1 .left) (c .before .before .bytes-for .ensures) (start .pre .1) (search needs) (made .tag-block .ensures)
-    (c .before .before .before .calls .ensures) (a .offered .now) _ (refusal at) (c .equal-bytes .ensures)
+    (c .before .before .before .calls .ensures) (a .offered .now) _ (refusal at) (λ i. at .before .before .shared-slice-known2 .given i .fits) (c .equal-bytes .ensures)
 
 chosen : (b d : Bool) (n : ℕ) → b ≡ d → pick d (Yes n) (No n) ≡ pick b (Yes n) (No n)
 chosen b d n e = ap (λ (x : Bool). pick x (Yes n) (No n)) (sym e)
