@@ -1,25 +1,30 @@
 -- What the functions hand back is what the specs say. A start is the refusals of its settings and then that of the declared length
 -- (`start-refused`, `start-sound`); the tag of an open record has m bits, so that the first bytes of a block that begins with it are
--- its bytes (`room-is`).
+-- its bytes (`room-is`); the calls counted are those of the definition's list (`calls-listed`).
 -- Assumes nothing.
 use mathlib.Core.Path.{_≡_, sym, ap, _∙_}
+use mathlib.Core.Bool.{false}
 use mathlib.Core.List.{List, [], _∷_, _++_}
 use Prim.Native.Nat.{ℕ, _+_, _≤_}
 use native.Mathlib.Omega.{arith}
 use borrow.Author.Tests.{ne-eqb}
 use lib.ListN.{length, take, drop}
 use Rattle.bits.specs.Choice.{_given_}
-use Rattle.bits.specs.Str.{bytesBits}
+use Rattle.bits.specs.Str.{bytesBits, zeros}
 use Rattle.block.specs.Block.{storage, filledBlock}
 use Rattle.bits.proofs.Choice.{miss}
 use Rattle.bits.proofs.Faults.{first-append, first-append-clear}
 use Rattle.bits.proofs.Same.{Bytes}
-use Rattle.mac.specs.Algorithm.{Keys}
+use Rattle.bits.proofs.Strings.{length-zeros}
+use Rattle.mac.specs.declared.Row.{Row}
+use Rattle.mac.specs.Padding.{methodAt, blockCount}
+use Rattle.mac.specs.Algorithm.{algorithmAt, row, Keys}
 use Rattle.mac.specs.Tag.{bytesFor, tagBytes}
 use Rattle.cipher.specs.Cipher.{Cipher}
 use Rattle.cipher.specs.Ciphers.{cipherAt}
 use Rattle.cipher.proofs.Laws.{sm4-width, width-at}
 use Rattle.mac.proofs.TagBytes.{tagBytes-block}
+use Rattle.mac.proofs.Promised.{Promised, promised-at}
 use Rattle.keys.specs.Given.{keysOf, givenOf}
 use Rattle.settings.specs.Faults.{settingsFaults, settingsRefusal}
 use Rattle.settings.specs.Answers.{settingsOf, checkedOf}
@@ -28,10 +33,12 @@ use Rattle.settings.specs.declared.Settings.{Settings}
 use Rattle.settings.specs.declared.Checked.{Checked}
 use Rattle.settings.specs.declared.Checked.the-variants.{Sound, Unsound}
 use Rattle.settings.proofs.Sound.{settings-alone, unsound-is, sound-is}
+use Rattle.message.specs.Faults.{tooFewBlocks}
+use Rattle.message.proofs.Taken.{enough-held}
 use Rattle.chain.proofs.Standing.{reached-at, finish-long}
 use Rattle.session.specs.declared.Session.{Session}
 use Rattle.session.specs.Record.{keysIn, stateIn, declaredTooLong}
-use Rattle.session.specs.Calls.{startFaults, refusedStart, startedBy, startOf, startUnder, tagIn}
+use Rattle.session.specs.Calls.{startFaults, refusedStart, startedBy, startOf, startUnder, tagIn, callsIn}
 
 -- ---- a start: u are the keys in use, c what the builder answered
 
@@ -72,3 +79,18 @@ module _ (s : Session) (hv : length (s .hold .value) ≡ 16) (hh : length (s .ho
   room-is b room last n sixteen e hn h =
       h ∙ ap (λ (k : ℕ). take k b ++ drop k room) hn
       ∙ ap (λ (w : List ℕ). w ++ drop (bytesFor (s .agreement .m)) room) (tagBytes-block (tagIn s) b (s .agreement .m) tag-long hm (sixteen .long) (λ i. sixteen .each i .fits) e)
+
+-- ---- the calls: q and the further calls of the row are as many as the list for so many bits has
+
+module _ (s : Session) where
+  abbrev agreed : Agreement
+  agreed = s .agreement
+
+  pub calls-listed : tooFewBlocks (settingsOf agreed) (s .total) ≡ false
+      → blockCount (methodAt (agreed .padding)) (cipherAt 1 .n) (s .total) + row (algorithmAt (agreed .algorithm)) .further ≡ callsIn s
+  unfolding callsIn
+  calls-listed h =
+      let q = ap (blockCount (methodAt (agreed .padding)) (cipherAt 1 .n)) (length-zeros (s .total)) in
+      sym (
+        promised-at 1 (algorithmAt (agreed .algorithm)) (methodAt (agreed .padding)) (keysIn s) .calls (agreed .m) (zeros (s .total)) (omega (arith, enough-held (settingsOf agreed) (s .total) h, q))
+        ∙ ap (λ (k : ℕ). k + row (algorithmAt (agreed .algorithm)) .further) q)

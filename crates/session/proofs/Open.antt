@@ -111,13 +111,16 @@ pub record Taken (s : Session) (c bits : ℕ) : Type 0 where
   pub few : s .total + bits ≤ 8388608
   pub within : s .agreement .padding ≡ 3 → s .total + bits ≤ s .declared
 
+pub piece-none : (s : Session) (c bits : ℕ) → firstOf (pieceFaults s c bits) ≡ 0 → Clear (pieceFaults s c bits)
+unfolding pieceFaults
+piece-none s c bits e =
+    first-clear (pieceFaults s c bits)
+    (also {k = 11} (omega arith) (also {k = 11} (omega arith) (also {k = 7} (omega arith) (also {k = 8} (omega arith) (also {k = 12} (omega arith) none))))) e
+
 pub taken : (s : Session) (c bits : ℕ) → firstOf (pieceFaults s c bits) ≡ 0 → Taken s c bits
 unfolding pieceFaults tooManyBits passesDeclared
-taken s c bits e = go (first-clear (pieceFaults s c bits) five e)
+taken s c bits e = go (piece-none s c bits e)
   where
-    five : Numbered (pieceFaults s c bits)
-    five = also {k = 11} (omega arith) (also {k = 11} (omega arith) (also {k = 7} (omega arith) (also {k = 8} (omega arith) (also {k = 12} (omega arith) none))))
-
     go : Clear (pieceFaults s c bits) → Taken s c bits
     go (passed shut (passed late (passed seven (passed eight (passed twelve done))))) = record {
       stands = opens s shut;

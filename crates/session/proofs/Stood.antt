@@ -7,10 +7,10 @@ use mathlib.Core.List.{List, [], _++_, append-nil}
 use Prim.Native.Nat.{ℕ, zero, suc, _+_, _≤_, _<_}
 use native.Mathlib.Nat.{zero-add}
 use native.Mathlib.Omega.{arith}
-use lib.ListN.{length, length-append}
+use lib.ListN.{length, take, length-append}
 use Rattle.bits.specs.Choice.{pick}
-use Rattle.bits.specs.Str.{Bits, bytesBits, leftmost}
-use Rattle.bits.proofs.Strings.{sameB-true}
+use Rattle.bits.specs.Str.{Bits, bytesBits, zeros, leftmost}
+use Rattle.bits.proofs.Strings.{sameB-true, length-zeros}
 use Rattle.block.specs.Block.{filledBlock}
 use Rattle.mac.specs.Run.{Run}
 use Rattle.mac.specs.declared.Row.{Row}
@@ -20,6 +20,7 @@ use Rattle.mac.specs.Tag.{tagOf, callsOf, blockBytes}
 use Rattle.mac.specs.Session.{State, absorb, finish, opened, fed, closed}
 use Rattle.cipher.specs.Cipher.{Cipher}
 use Rattle.cipher.specs.Ciphers.{cipherAt}
+use Rattle.cipher.proofs.Widths.{take-filled}
 use Rattle.cipher.proofs.Laws.{lawful-at, width-at}
 use Rattle.mac.proofs.Absorbing.{absorb-append, absorb-fits, one-piece, opened-held}
 use Rattle.mac.proofs.TagBytes.{blockBytes-bits}
@@ -28,7 +29,7 @@ use Rattle.keys.specs.Given.{keysOf, givenOf}
 use Rattle.keys.proofs.GivenKeys.{given-keys}
 use Rattle.settings.specs.declared.Agreement.{Agreement}
 use Rattle.chain.specs.declared.Hold.{Hold}
-use Rattle.chain.specs.Chain.{heldBits, stateAt, holdOf}
+use Rattle.chain.specs.Chain.{heldBits, holdOf}
 use Rattle.chain.proofs.Feeding.{held-le}
 use Rattle.chain.proofs.Standing.{quiet, absorb-quiet, Reached, stands, reached-next, reached-opened, keeps, closes}
 use Rattle.session.specs.declared.Session.{Session}
@@ -43,6 +44,14 @@ n = C .n
 
 some : 0 < n
 some = lawful-at 1 .wide
+
+-- a waiting block that is made of the bits that wait after l has no bit set past them
+pub held-clean : (l : ℕ) (w : Bits) → length w ≡ heldBits n l → strayBit (heldBits n l) (bytesBits (blockBytes w)) ≡ false
+unfolding strayBit leftmost
+held-clean l w h = ap not (sameB-true _ _ (ap (λ (v : Bits). filledBlock (take (heldBits n l) v)) bits ∙ ap filledBlock (take-filled (heldBits n l) w h) ∙ sym bits))
+  where
+    bits : bytesBits (blockBytes w) ≡ filledBlock w
+    bits = blockBytes-bits w (omega (arith, held-le n l some, width-at 1))
 
 -- method 3 alone reads the declared length
 opened-alike : (A : Algorithm) (K : Keys) (p d e : ℕ) → (p ≡ 3 → d ≡ e) → opened C A (methodAt p) K d ≡ opened C A (methodAt p) K e
@@ -94,14 +103,10 @@ module _ (A : Agreement) (s : List ℕ) (d : ℕ) where
   unfolding stood stateIn standing freshOf
   state-is x = stands n p (length x) (after x) (width-at 1) (reached x)
 
-  -- the bits that wait, and zeros after them
-  held-bits : (x : Bits) → bytesBits (blockBytes (after x .held)) ≡ filledBlock (after x .held)
-  held-bits x = blockBytes-bits (after x .held) (omega (arith, reached x .long, held-le n (length x) some, width-at 1))
-
   -- no bit is set past those that wait
   pub stood-clean : (x : Bits) → strayBit (heldBits n (length x)) (bytesBits (stood x .hold .held)) ≡ false
-  unfolding strayBit stood stateIn stateAt standing freshOf holdOf leftmost
-  stood-clean x = ap not (sameB-true _ _ (ap (λ (t : State). filledBlock (t .held)) (state-is x) ∙ sym (held-bits x)))
+  unfolding stood standing freshOf holdOf
+  stood-clean x = held-clean (length x) (after x .held) (reached x .long)
 
   -- a piece
   pub stood-fed : (x y : Bits) → fedOf (stood x) y ≡ stood (x ++ y)
@@ -133,4 +138,7 @@ module _ (A : Agreement) (s : List ℕ) (d : ℕ) where
 
   pub stood-calls : (x : Bits) → row B .least ≤ blockCount M n (length x) → callsIn (stood x) ≡ length (callsOf C B M K (A .m) x)
   unfolding callsIn stood standing freshOf
-  stood-calls x h = sym (promised-at 1 B M K .calls (A .m) x h)
+  stood-calls x h =
+      let q = ap (blockCount M n) (length-zeros (length x)) in
+      promised-at 1 B M (keysOf (givenOf s)) .calls (A .m) (zeros (length x)) (omega (arith, h, q)) ∙ ap (λ (k : ℕ). k + row B .further) q
+      ∙ sym (promised-at 1 B M K .calls (A .m) x h)

@@ -47,17 +47,6 @@ module _ {R : Type 0} (answer : R → Outcome) (n : ℕ) (x y : R) where
   unfolding pick
   sound-chosen e = rw e
 
-  pub unrefused-sound : numberOf (answer y) ≡ n → Unrefused (answer (pick (eqb n 0) x y)) → n ≡ 0
-  unfolding pick
-  unrefused-sound bad u = go (eqb n 0) refl u
-    where
-      go : (b : Bool) → eqb n 0 ≡ b → Unrefused (answer (pick b x y)) → n ≡ 0
-      go true e h = eqb-true n 0 e
-      go false e h = sym bad ∙ h
-
-  pub unrefused-chosen : numberOf (answer y) ≡ n → Unrefused (answer (pick (eqb n 0) x y)) → pick (eqb n 0) x y ≡ x
-  unrefused-chosen bad u = sound-chosen (unrefused-sound bad u)
-
   pub refused-chosen : Unrefused (answer x) → ¬ (Unrefused (answer (pick (eqb n 0) x y))) → pick (eqb n 0) x y ≡ y
   unfolding pick
   refused-chosen good u = go (eqb n 0) u

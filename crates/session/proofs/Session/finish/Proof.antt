@@ -1,4 +1,5 @@
--- `finish` meets its contract: the refusal with record and room as they came, or the tag's bytes put into the room (`room-is`).
+-- `finish` meets its contract: the refusal with record and room as they came, or the tag's bytes put into the room (`room-is`) and
+-- as many calls as the definition's list has (`calls-listed`).
 -- Assumes nothing.
 use mathlib.Core.Path.{_≡_, sym, ap, _∙_}
 use native.Mathlib.Omega.{arith}
@@ -15,9 +16,9 @@ use Rattle.mac.specs.Tag.{bytesFor}
 use Rattle.settings.specs.declared.Settings.{Settings}
 use Rattle.settings.specs.declared.Outcome.the-variants.{Made, Refused}
 use Rattle.session.specs.declared.Session.{Session}
-use Rattle.session.specs.Calls.{callsIn, finishOf}
+use Rattle.session.specs.Calls.{finishOf}
 use Rattle.session.proofs.Open.{Ended, ended}
-use Rattle.session.proofs.Answers.{room-is}
+use Rattle.session.proofs.Answers.{room-is, calls-listed}
 use borrow.Author.Needs.{needs}
 use Rattle.session.proofs.Session.finish.Statement.{statement}
 use Rattle.session.proofs.Session.finish.Tie as tie
@@ -45,7 +46,7 @@ put-requires c κs =
     rw (c .before .bytes-for .ensures) (omega (arith, f .stands .short), f .wide)
 
 returns-2 : tie.Need-returns-2
-unfolding finishOf callsIn
+unfolding finishOf
 returns-2 c =
     let put = c .before .before .before .before .before in
     let made = put .before .before .before in
@@ -55,7 +56,7 @@ returns-2 c =
     let total = a .self .total in
     let f = goes at in
     let room = room-is (a .self) (blocks start .0) (blocks start .1) (f .stands .short) (made .tag-block .result) (a .room .now) _ (put .before .before .bytes-for .result) (search needs) (made .tag-block .ensures) (put .before .before .bytes-for .ensures) (put .put .ensures) in
-    let calls = c .calls .ensures ∙ ap (λ (S : Settings). blockCount (methodAt (S .padding)) (cipherAt 1 .n) total + row (algorithmAt (S .algorithm)) .further) (c .before .of .ensures) in
+    let calls = c .calls .ensures ∙ ap (λ (S : Settings). blockCount (methodAt (S .padding)) (cipherAt 1 .n) total + row (algorithmAt (S .algorithm)) .further) (c .before .of .ensures) ∙ calls-listed (a .self) (f .enough) in
     hit _ _ _ _ (eq-eqb _ 0 (sym (at .before .finish-refusal .ensures) ∙ at .if1 .left)) (λ i. (record { answer = Made (calls i); session = c .before .before .closed-session .ensures i }, room i))
 
 pub finish-spec : {M : Type 1} → statement M

@@ -1,0 +1,187 @@
+-- A session and one call, both ways: a session that runs, with its joined bits as the message, is finished as `make` answers for them,
+-- refusals 9 and 10 included, and leaves the same room (`ends-as-one-call`; under padding 3 where the declared length is met, for else
+-- the finish gets 12). So a session that can be finished has an accepted one call (`finished-as-one-call`), and 9 is refused by both or by
+-- neither (`nine-by-both`). The other way round, what one call accepts a session accepts under every cut: `accepting`.
+-- Assumes nothing.
+use mathlib.Core.Path.{_≡_, refl, sym, ap, ap₂, _∙_}
+use mathlib.Core.Bool.{Bool, true, false, not, _&&_}
+use mathlib.Core.List.{List, [], _∷_, _++_}
+use Prim.Native.Nat.{ℕ, suc, _≤_, _<_}
+use native.Mathlib.Omega.{arith}
+use borrow.Author.Tests.{eq-eqb, eqb-true, eqb-false, ne-eqb, le-ltb, ltb-false}
+use lib.Dec.{eqb, ltb}
+use lib.ListN.{length}
+use Rattle.bits.specs.Choice.{pick, Fault, _given_, firstOf}
+use Rattle.bits.specs.Str.{Bits}
+use Rattle.bits.proofs.Faults.{Clear, passed, done, clear-first, clear-append, first-append-clear}
+use Rattle.mac.specs.declared.Row.{Row}
+use Rattle.mac.specs.Padding.{methodAt, blockCount}
+use Rattle.mac.specs.Algorithm.{Algorithm, alg1, alg2, alg3, alg4, alg5, alg6, alg7, alg8, algorithmAt, row}
+use Rattle.mac.specs.Tag.{bitsOf, bytesFor}
+use Rattle.mac.proofs.Padded.{needed, count-three}
+use Rattle.mac.proofs.TagBytes.{length-bitsOf}
+use Rattle.cipher.specs.Cipher.{Cipher}
+use Rattle.cipher.specs.Ciphers.{cipherAt}
+use Rattle.cipher.proofs.Laws.{lawful-at}
+use Rattle.keys.specs.Given.{keysOf}
+use Rattle.settings.specs.Faults.{settingsFaults}
+use Rattle.settings.specs.Answers.{numberOf, settingsOf}
+use Rattle.settings.specs.declared.Agreement.{Agreement}
+use Rattle.settings.specs.declared.Outcome.{Outcome}
+use Rattle.settings.specs.declared.Outcome.the-variants.{Refused}
+use Rattle.settings.proofs.Numbers.{Unrefused}
+use Rattle.settings.proofs.Sound.{settings-alone}
+use Rattle.message.specs.Faults.{lengthWrong, tooManyBits, tooFewBlocks, roomShort, messageFaults}
+use Rattle.tag.specs.OneCall.{oneCallFaults, madeBy, makeOf}
+use Rattle.tag.proofs.Numbers.{madeOf, make-faults, sound-made, made-of}
+use Rattle.session.specs.declared.Session.{Session}
+use Rattle.session.specs.declared.Step.{Step}
+use Rattle.session.specs.Record.{standing, countsClosed}
+use Rattle.session.specs.Calls.{startFaults, freshOf, declaredAt, startOf, fallsShort, finishFaults, finishOf}
+use Rattle.session.proofs.Open.{Open, opens, ended}
+use Rattle.session.proofs.Stood.{stood}
+use Rattle.session.proofs.Joined.{Act, Running, ending, record-after, message, finished, finish-faults, finish-sound, finish-runs, declared-met, finish-stood, after-stood, joined-bits}
+use Rattle.session.proofs.StaysOpen.{three-no, start-clear}
+
+-- bytes of which the first l bits are the message x
+pub record Holds (bytes : List ℕ) (l : ℕ) (x : Bits) : Type 0 where
+  pub long : length bytes ≡ bytesFor l
+  pub bits : bitsOf bytes l ≡ x
+
+length-held : (bytes : List ℕ) (l : ℕ) (x : Bits) → Holds bytes l x → length x ≡ l
+unfolding bytesFor
+length-held bytes l x h = ap length (sym (h .bits)) ∙ length-bitsOf bytes l (omega (arith, h .long))
+
+-- what is left of both orders: 9, then 10
+abbrev lastTwo : Agreement → ℕ → ℕ → ℕ
+lastTwo A l room = firstOf (9 given tooFewBlocks (settingsOf A) l ∷ 10 given roomShort (A .m) room ∷ [])
+
+-- a fault that is not there is passed over
+past : (k : ℕ) (b : Bool) (fs : List Fault) → b ≡ false → firstOf (k given b ∷ fs) ≡ firstOf fs
+unfolding firstOf pick
+past k b fs e = rw e refl
+
+-- ---- a session that runs after the bits x
+
+module _ (A : Agreement) (s : List ℕ) (d : ℕ) (g : Clear (startFaults A s d)) (x : Bits) (runs : Running (stood A s d x)) where
+  -- 11 and 12 are not there
+  finish-last : (A .padding ≡ 3 → d ≡ length x) → (room : ℕ) → firstOf (finishFaults (stood A s d x) room) ≡ lastTwo A (length x) room
+  unfolding finishFaults fallsShort declaredAt pick stood standing freshOf
+  finish-last met room =
+      past 11 _ _ runs
+      ∙ past 12 _ _ (three-no (A .padding) _ (λ e. ap (λ (k : ℕ). ltb (length x) (pick (eqb k 3) d 0)) e ∙ le-ltb (length x) d (omega (arith, met e))))
+
+  -- 1 to 6 are not there, nor 7 and 8
+  make-last : (bytes : List ℕ) (l : ℕ) → Holds bytes l x → (ten : Bool)
+      → firstOf (oneCallFaults A s (length bytes) l ten) ≡ firstOf (9 given tooFewBlocks (settingsOf A) (length x) ∷ 10 given ten ∷ [])
+  unfolding oneCallFaults startFaults messageFaults lengthWrong tooManyBits stood standing freshOf
+  make-last bytes l h ten =
+      first-append-clear (settingsFaults A (length s) (keysOf s)) _ (settings-alone A (length s) (keysOf s)) (clear-first (clear-append (settingsFaults A (length s) (keysOf s)) _ g .0))
+      ∙ past 7 _ _ (ap not (eq-eqb (length bytes) (bytesFor l) (h .long)))
+      ∙ past 8 _ _ (le-ltb 8388608 l (omega (arith, few, length-held bytes l x h)))
+      ∙ ap (λ (k : ℕ). firstOf (9 given tooFewBlocks (settingsOf A) k ∷ 10 given ten ∷ [])) (sym (length-held bytes l x h))
+    where
+      few : length x ≤ 8388608
+      few = opens (stood A s d x) runs .few
+
+  both : (A .padding ≡ 3 → d ≡ length x) → (bytes : List ℕ) (l : ℕ) → Holds bytes l x → (room : List ℕ)
+      → (finishOf (stood A s d x) room .0 .answer, finishOf (stood A s d x) room .1) ≡ makeOf A s bytes l room
+  unfolding finishOf makeOf madeBy pick
+  both met bytes l h room = go (eqb no 0) refl
+    where
+      no : ℕ
+      no = firstOf (finishFaults (stood A s d x) (length room))
+
+      same : no ≡ firstOf (oneCallFaults A s (length bytes) l (roomShort (A .m) (length room)))
+      same = finish-last met (length room) ∙ sym (make-last bytes l h (roomShort (A .m) (length room)))
+
+      go : (b : Bool) → eqb no 0 ≡ b → (finishOf (stood A s d x) room .0 .answer, finishOf (stood A s d x) room .1) ≡ makeOf A s bytes l room
+      go true e =
+          let z = eqb-true no 0 e in
+          ap (λ (r : Step × List ℕ). (r .0 .answer, r .1)) (finish-stood A s d x room z)
+          ∙ sym (sound-made A s bytes l room (sym same ∙ z) ∙ ap (λ (w : Bits). madeOf A s w room) (h .bits))
+      go false e = rw (e, sym same, e) refl
+
+-- ---- 9 under padding 3: never, for L and a block of the message are two
+
+least-two : (A : Algorithm) → row A .least ≤ 2
+least-two alg1 = omega arith
+least-two alg2 = omega arith
+least-two alg3 = omega arith
+least-two alg4 = omega arith
+least-two alg5 = omega arith
+least-two alg6 = omega arith
+least-two alg7 = omega arith
+least-two alg8 = omega arith
+
+never-few : (A : Agreement) (l : ℕ) → A .padding ≡ 3 → tooFewBlocks (settingsOf A) l ≡ false
+unfolding tooFewBlocks needed
+never-few A l e =
+    le-ltb (blockCount (methodAt (A .padding)) (cipherAt 1 .n) l) (row (algorithmAt (A .algorithm)) .least) (omega (arith, least-two (algorithmAt (A .algorithm)), count-three (cipherAt 1 .n) l (lawful-at 1 .wide) (A .padding) e))
+
+-- 12 or 10 may be there, not 9
+no-nine : (b t : Bool) → ¬ (firstOf (12 given b ∷ 9 given false ∷ 10 given t ∷ []) ≡ 9)
+unfolding firstOf pick
+no-nine true t e = absurd (omega arith)
+no-nine false true e = absurd (omega arith)
+no-nine false false e = absurd (omega arith)
+
+module _ (A : Agreement) (s : List ℕ) (d : ℕ) (u : Unrefused (startOf A s d .answer)) (x : Bits) (runs : Running (stood A s d x)) (three : A .padding ≡ 3) where
+  never-nine : (room : List ℕ) → ¬ (numberOf (finishOf (stood A s d x) room .0 .answer) ≡ 9)
+  unfolding finishFaults stood standing freshOf
+  never-nine room e =
+      no-nine (fallsShort (A .padding) (declaredAt (A .padding) d) (length x)) (roomShort (A .m) (length room))
+      (ap (λ (b : Bool). firstOf (12 given fallsShort (A .padding) (declaredAt (A .padding) d) (length x) ∷ 9 given b ∷ 10 given roomShort (A .m) (length room) ∷ [])) (sym (never-few A (length x) three))
+      ∙ sym (past 11 _ _ runs) ∙ sym (finish-faults (stood A s d x) room) ∙ e)
+
+  one-never-nine : (bytes : List ℕ) (l : ℕ) → Holds bytes l x → (room : List ℕ) → ¬ (numberOf (makeOf A s bytes l room .0) ≡ 9)
+  one-never-nine bytes l h room e =
+      no-nine false (roomShort (A .m) (length room))
+      (past 12 false _ refl
+      ∙ ap (λ (b : Bool). firstOf (9 given b ∷ 10 given roomShort (A .m) (length room) ∷ [])) (sym (never-few A (length x) three))
+      ∙ sym (make-last A s d (start-clear A s d u) x runs bytes l h (roomShort (A .m) (length room))) ∙ sym (make-faults A s bytes l room) ∙ e)
+
+-- ---- the statements: of every start that was accepted and any calls after it
+
+module _ (A : Agreement) (s : List ℕ) (d : ℕ) (u : Unrefused (startOf A s d .answer)) (cs : List Act) (bytes : List ℕ) (l : ℕ) (h : Holds bytes l (message A s d cs)) (room : List ℕ) where
+  abbrev one : Outcome × List ℕ
+  one = makeOf A s bytes l room
+
+  abbrev end : Step × List ℕ
+  end = finished A s d cs room
+
+  pub ends-as-one-call : Running (record-after A s d cs) → (A .padding ≡ 3 → d ≡ length (message A s d cs)) → (end .0 .answer, end .1) ≡ one
+  ends-as-one-call runs met =
+      let e = after-stood A s d u cs runs in
+      ap (λ (t : Session). (finishOf t room .0 .answer, finishOf t room .1)) e
+      ∙ both A s d (start-clear A s d u) (message A s d cs) (rw e at runs) met bytes l h room
+
+  pub finished-as-one-call : Unrefused (end .0 .answer) → Unrefused (one .0) × (end ≡ ending one)
+  unfolding declaredAt pick
+  finished-as-one-call f = (accepted, joined-bits A s d u cs room f ∙ ap ending (sym (made-of A s bytes l room accepted ∙ ap (λ (w : Bits). madeOf A s w room) (h .bits))))
+    where
+      runs : Running (record-after A s d cs)
+      runs = finish-runs (record-after A s d cs) room f
+
+      -- no 12: the declared length is met
+      met : A .padding ≡ 3 → d ≡ length (message A s d cs)
+      met e =
+          let sound = finish-sound (record-after A s d cs) room f in
+          let met-at = declared-met A s d (message A s d cs) room (ended _ (length room) (rw (after-stood A s d u cs runs) at sound)) e in
+          sym (ap (λ (k : ℕ). pick (eqb k 3) d 0) e) ∙ met-at
+
+      accepted : Unrefused (one .0)
+      accepted = ap (λ (r : Outcome × List ℕ). numberOf (r .0)) (sym (ends-as-one-call runs met)) ∙ f
+
+  pub nine-by-both : Running (record-after A s d cs) → (numberOf (end .0 .answer) ≡ 9 → numberOf (one .0) ≡ 9) × (numberOf (one .0) ≡ 9 → numberOf (end .0 .answer) ≡ 9)
+  nine-by-both runs = go (eqb (A .padding) 3) refl
+    where
+      go : (b : Bool) → eqb (A .padding) 3 ≡ b → (numberOf (end .0 .answer) ≡ 9 → numberOf (one .0) ≡ 9) × (numberOf (one .0) ≡ 9 → numberOf (end .0 .answer) ≡ 9)
+      go true p =
+          let three = eqb-true (A .padding) 3 p in
+          let e = after-stood A s d u cs runs in
+          (λ nine. absurd (never-nine A s d u (message A s d cs) (rw e at runs) three room (ap (λ (t : Session). numberOf (finishOf t room .0 .answer)) (sym e) ∙ nine)),
+          λ nine. absurd (one-never-nine A s d u (message A s d cs) (rw e at runs) three bytes l h room nine))
+      go false p =
+          let same = ap (λ (r : Outcome × List ℕ). numberOf (r .0)) (ends-as-one-call runs (λ e. absurd (eqb-false (A .padding) 3 p e))) in
+          (λ nine. sym same ∙ nine, λ nine. same ∙ nine)

@@ -1,0 +1,147 @@
+-- An accepted start, and an accepted piece offered to any record at all, leave the session open (01, "Numbered answers"): no test by
+-- which a record counts as closed finds anything in what they hand back (`start-opens`, `piece-opens`). `stood-open` says it of every
+-- record that an accepted start and bits within the limits lead to.
+-- Assumes nothing.
+use mathlib.Core.Path.{_≡_, refl, sym, ap, _∙_}
+use mathlib.Core.Bool.{Bool, true, false, not, _&&_}
+use mathlib.Core.List.{List, []}
+use Prim.Native.Nat.{ℕ, _+_, _%_, _≤_}
+use native.Mathlib.Omega.{arith}
+use borrow.Author.Tests.{eq-eqb, eqb-true, le-ltb, not-false}
+use lib.Dec.{eqb, ltb}
+use lib.ListN.{length}
+use Rattle.bits.specs.Choice.{pick, firstOf}
+use Rattle.bits.specs.Str.{Bits}
+use Rattle.bits.proofs.Faults.{Clear, passed, done, also, none, first-clear, clear-first}
+use Rattle.mac.specs.Algorithm.{Keys}
+use Rattle.mac.specs.Tag.{bitsOf}
+use Rattle.mac.specs.Session.{State, absorb}
+use Rattle.mac.proofs.TagBytes.{length-bitsOf}
+use Rattle.cipher.specs.Cipher.{Cipher}
+use Rattle.cipher.specs.Ciphers.{cipherAt}
+use Rattle.cipher.proofs.Laws.{lawful-at, width-at}
+use Rattle.keys.specs.Given.{keysOf, givenOf}
+use Rattle.keys.specs.Faults.{keyBytes, keyBytesWrong}
+use Rattle.keys.proofs.GivenKeys.{given-keys}
+use Rattle.settings.specs.Faults.{settingsFaults, settingsRefusal}
+use Rattle.settings.specs.declared.Agreement.{Agreement}
+use Rattle.settings.proofs.Numbers.{Unrefused}
+use Rattle.settings.proofs.Sound.{settings-numbered}
+use Rattle.message.specs.Faults.{tooManyBits}
+use Rattle.chain.specs.declared.Hold.{Hold}
+use Rattle.chain.specs.Chain.{holdOf}
+use Rattle.chain.proofs.Standing.{Reached, reached-at, reached-next, keeps}
+use Rattle.session.specs.declared.Session.{Session}
+use Rattle.session.specs.declared.Step.{Step}
+use Rattle.session.specs.Record.{keysIn, stateIn, standing, phaseAt, phaseUnfit, settingsUnsound, declaredTooLong, passesDeclared, closedFaults, countsClosed}
+use Rattle.session.specs.Calls.{startFaults, freshOf, declaredAt, startOf, stepsIn, pieceFaults, fedOf}
+use Rattle.session.proofs.Open.{closed-numbered, Taken, taken, piece-none}
+use Rattle.session.proofs.Stood.{stood, held-clean, stood-clean}
+use Rattle.session.proofs.Joined.{Offered, bitsIn, offer, Running, piece-taken, piece-sound, start-faults, start-stood}
+
+-- ---- tests that find nothing
+
+-- under padding 3 only
+pub three-no : (p : ℕ) (b : Bool) → (p ≡ 3 → b ≡ false) → eqb p 3 && b ≡ false
+three-no p b h = go (eqb p 3) refl
+  where
+    go : (c : Bool) → eqb p 3 ≡ c → c && b ≡ false
+    go true e = h (eqb-true p 3 e)
+    go false e = refl
+
+-- what a length does not do, the length that is kept of it does not do
+kept-no : (p d : ℕ) (test : ℕ → Bool) → eqb p 3 && test d ≡ false → eqb p 3 && test (declaredAt p d) ≡ false
+unfolding declaredAt pick
+kept-no p d test = go (eqb p 3)
+  where
+    go : (b : Bool) → b && test d ≡ false → b && test (pick b d 0) ≡ false
+    go true e = e
+    go false e = refl
+
+phase-fits : (l : ℕ) → phaseUnfit (phaseAt l) l ≡ false
+unfolding phaseAt phaseUnfit pick
+phase-fits l = go (eqb (l % 8) 0) refl
+  where
+    go : (b : Bool) → eqb (l % 8) 0 ≡ b → phaseUnfit (phaseAt l) l ≡ false
+    go true e = rw (e, e)
+    go false e = rw (e, e, eq-eqb (l % 8) (l % 8) refl)
+
+-- a record runs where no test finds anything
+runs : (s : Session) → Clear (closedFaults s) → Running s
+unfolding countsClosed
+runs s c = ap (λ (k : ℕ). not (eqb k 0)) (clear-first c)
+
+pub running-clear : (s : Session) → Running s → Clear (closedFaults s)
+unfolding countsClosed
+running-clear s e = first-clear (closedFaults s) (closed-numbered s) (eqb-true _ 0 (not-false _ e))
+
+-- ---- after an accepted start
+
+module _ (A : Agreement) (s : List ℕ) (d : ℕ) where
+  pub start-clear : Unrefused (startOf A s d .answer) → Clear (startFaults A s d)
+  unfolding startFaults
+  start-clear u = first-clear _ (settings-numbered A (length s) (keysOf s) _ (also {k = 8} (omega arith) none)) (sym (start-faults A s d) ∙ u)
+
+  settings-sound : Clear (startFaults A s d) → settingsUnsound A (givenOf s) ≡ false
+  unfolding startFaults settingsFaults settingsUnsound settingsRefusal keyBytesWrong
+  settings-sound (passed e1 (passed e2 (passed e3 (passed e4 (passed e5 (passed e6 rest)))))) =
+      let n : ℕ = keyBytes (A .algorithm) in
+      ap (λ (K : Keys). not (eqb (settingsRefusal A n K) 0)) (given-keys s)
+      ∙ ap (λ (k : ℕ). not (eqb k 0)) (clear-first (passed e1 (passed e2 (passed e3 (passed (ap not (eq-eqb n n refl)) (passed e5 (passed e6 done)))))))
+
+  declared-short : Clear (startFaults A s d) → declaredTooLong (A .padding) d ≡ false
+  unfolding startFaults settingsFaults
+  declared-short (passed e1 (passed e2 (passed e3 (passed e4 (passed e5 (passed e6 (passed e8 done))))))) = e8
+
+  pub stood-open : Clear (startFaults A s d) → (x : Bits) → length x ≤ 8388608 → (A .padding ≡ 3 → length x ≤ d) → Running (stood A s d x)
+  unfolding closedFaults stood standing freshOf tooManyBits declaredTooLong passesDeclared
+  stood-open g x few within =
+      runs (stood A s d x)
+      (passed (phase-fits (length x))
+      (passed (settings-sound g)
+      (passed (le-ltb 8388608 (length x) few)
+      (passed (kept-no (A .padding) d (λ k. ltb 8388608 k) (declared-short g))
+      (passed (kept-no (A .padding) d (λ k. ltb k (length x)) (three-no (A .padding) _ (λ e. le-ltb d (length x) (within e))))
+      (passed (stood-clean A s d x) done))))))
+
+  pub start-opens : Unrefused (startOf A s d .answer) → Running (startOf A s d .session)
+  start-opens u = let e = start-stood A s d u in rw e (stood-open (start-clear u) [] (omega arith) (λ h. omega arith))
+
+-- ---- after an accepted piece: of any record whose blocks have sixteen bytes
+
+module _ (s : Session) (hv : length (s .hold .value) ≡ 16) (hh : length (s .hold .held) ≡ 16) where
+  abbrev n : ℕ
+  n = cipherAt 1 .n
+
+  -- the bits that wait after x
+  next-long : (x : Bits) → Reached n (s .agreement .padding) (s .total + length x) (absorb n (stepsIn s) (stateIn s) x)
+  unfolding stateIn
+  next-long x =
+      let A = s .agreement in
+      reached-next n (lawful-at 1 .wide) (stepsIn s) (keeps 1 (A .algorithm) (A .padding) (keysIn s)) (A .padding) (s .total) _ (reached-at n (A .padding) (s .total) (s .hold) (width-at 1) hv hh) x
+
+  fed-open : (q : Offered) → Clear (pieceFaults s (length (q .bytes)) (q .bits)) → length (bitsIn q) ≡ q .bits → Running (fedOf s (bitsIn q))
+  unfolding pieceFaults closedFaults fedOf standing holdOf
+  fed-open q (passed shut (passed late (passed seven (passed eight (passed twelve done))))) long = go (running-clear s shut)
+    where
+      l : ℕ
+      l = s .total + length (bitsIn q)
+
+      sum : s .total + q .bits ≡ l
+      sum = ap (λ (k : ℕ). s .total + k) (sym long)
+
+      go : Clear (closedFaults s) → Running (fedOf s (bitsIn q))
+      go (passed unfit (passed unsound (passed many (passed declared (passed past (passed stray done)))))) =
+          runs (fedOf s (bitsIn q))
+          (passed (phase-fits l)
+          (passed unsound
+          (passed (sym (ap tooManyBits sum) ∙ eight)
+          (passed declared
+          (passed (sym (ap (passesDeclared (s .agreement .padding) (s .declared)) sum) ∙ twelve)
+          (passed (held-clean l (absorb n (stepsIn s) (stateIn s) (bitsIn q) .held) (next-long (bitsIn q) .long)) done))))))
+
+  pub piece-opens : (q : Offered) → Unrefused (offer s q .answer) → Running (offer s q .session)
+  piece-opens q u =
+      let t = taken s (length (q .bytes)) (q .bits) (piece-sound s q u) in
+      let e = ap (λ (r : Step). r .session) (piece-taken s q u) in
+      rw e (fed-open q (piece-none s (length (q .bytes)) (q .bits) (piece-sound s q u)) (length-bitsOf (q .bytes) (q .bits) (t .long)))
