@@ -1,17 +1,19 @@
 -- A slip without a fault in its fields is nothing but its four fields: label, length and value of each, one after the other, and no
--- byte besides. A field that names an allowed length names the value's own length, since none is over 255.
+-- byte besides (`four-fields`). A field that names an allowed length names the value's own length, since none is over 255. So every
+-- number of it is a byte (`slip-bytes`).
 -- Assumes nothing.
-use mathlib.Core.Path.{_≡_, refl, sym, ap, _∙_}
-use mathlib.Core.List.{List, _∷_, _++_, append-nil}
-use Prim.Native.Nat.{ℕ, _/_, _%_, _<_}
+use mathlib.Core.Path.{_≡_, refl, sym, ap, _∙_, subst}
+use mathlib.Core.Bool.{false}
+use mathlib.Core.List.{List, [], _∷_, _++_, append-nil}
+use Prim.Native.Nat.{ℕ, zero, suc, _/_, _%_, _<_}
 use native.Mathlib.Omega.{arith}
 use lib.ListN.{length, take, drop, getD, length-drop, take-append-drop, drop-of-length-le}
 use lib.Seq.{drop-cons, drop-drop, length-take-le}
 use Rattle.fields.specs.Format.{expiryRow, lotRow, amountRow, sealRow}
-use Rattle.fields.specs.Field.{twoBytes, lengthOf, value, endOf, fieldOf}
+use Rattle.fields.specs.Field.{anyOutside, twoBytes, lengthOf, value, endOf, fieldOf}
 use Rattle.fields.specs.Layout.{lotAt, amountAt, sealAt, lotField, amountField, sealField, covered}
 use Rattle.fields.specs.declared.Row.{Row}
-use Rattle.fields.proofs.Formed.{Formed, end-whole}
+use Rattle.fields.proofs.Formed.{Formed, neither, within, end-whole}
 use Rattle.fields.proofs.Laid.{LaidOut}
 
 module _ (row : Row) (field : List ℕ) (ok : Formed row field) where
@@ -74,3 +76,46 @@ module _ (s : List ℕ) (ok : LaidOut s) where
       ∙ ap (λ (l : List ℕ). fieldOf expiryRow (value s) ++ l) (lot-first
       ∙ ap (λ (l : List ℕ). fieldOf lotRow (value (lotField s)) ++ l) (amount-first
       ∙ ap (λ (l : List ℕ). fieldOf amountRow (value (amountField s)) ++ l) seal-alone))
+
+-- ---- bytes
+
+-- each number is a byte
+abbrev pub Bytewise : List ℕ → Type 0
+Bytewise s = (i : ℕ) → getD s i 0 < 256
+
+bytes-cons : (x : ℕ) (s : List ℕ) → x < 256 → Bytewise s → Bytewise (x ∷ s)
+bytes-cons x s h f zero = h
+bytes-cons x s h f (suc i) = f i
+
+bytes-append : (s t : List ℕ) → Bytewise s → Bytewise t → Bytewise (s ++ t)
+bytes-append [] t f g = g
+bytes-append (x ∷ s) t f g = bytes-cons x (s ++ t) (f 0) (bytes-append s t (λ i. f (suc i)) g)
+
+-- those of a range
+bytes-within : (low high : ℕ) (s : List ℕ) → high < 256 → anyOutside low high s ≡ false → Bytewise s
+unfolding anyOutside
+bytes-within low high [] h e = λ i. omega arith
+bytes-within low high (x ∷ s) h e =
+    let both = neither _ _ e in
+    bytes-cons x s (omega (arith, within low high x (both .0) .high)) (bytes-within low high s h (both .1))
+
+field-bytes : (row : Row) (field : List ℕ) → Formed row field → row .label < 256 → row .most < 256 → row .high < 256 → Bytewise (fieldOf row (value field))
+field-bytes row field ok label most high =
+    let v = value field in
+    let l = length v in
+    let first : l / 256 < 256 = omega (arith, value-long row field ok, ok .allowed .high) in
+    let second : l % 256 < 256 = omega arith in
+    bytes-cons (row .label) (l / 256 ∷ l % 256 ∷ v) label
+    (bytes-cons (l / 256) (l % 256 ∷ v) first (bytes-cons (l % 256) v second (bytes-within (row .low) (row .high) v high (ok .bytes))))
+
+pub slip-bytes : (s : List ℕ) → LaidOut s → Bytewise s
+slip-bytes s ok =
+    let expiry = fieldOf expiryRow (value s) in
+    let lot = fieldOf lotRow (value (lotField s)) in
+    let amount = fieldOf amountRow (value (amountField s)) in
+    let seal = fieldOf sealRow (value (sealField s)) in
+    subst Bytewise (sym (four-fields s ok))
+    (bytes-append expiry (lot ++ (amount ++ seal)) (field-bytes expiryRow s (ok .expiry) (omega arith) (omega arith) (omega arith))
+    (bytes-append lot (amount ++ seal) (field-bytes lotRow (lotField s) (ok .lot) (omega arith) (omega arith) (omega arith))
+    (bytes-append amount seal (field-bytes amountRow (amountField s) (ok .amount) (omega arith) (omega arith) (omega arith))
+    (field-bytes sealRow (sealField s) (ok .seal) (omega arith) (omega arith) (omega arith)))))

@@ -6,7 +6,7 @@ use mathlib.Core.Bool.{xor}
 use mathlib.Core.List.{List, [], _∷_, _++_, flatMap, zipWith}
 use Prim.Native.Nat.{ℕ}
 use Rattle.bits.specs.Choice.{pick, firstOf}
-use Rattle.bits.specs.Str.{bitsN, digit, numOf, bytesBits, words, zeros, xorB, sameB, rotl, leftmost, filled, shiftl, double, halvesFlipped, everySecond}
+use Rattle.bits.specs.Str.{bitsN, digit, numOf, bytesBits, words, zeros, xorB, sameBytes, rotl, leftmost, filled, shiftl, double, halvesFlipped, everySecond}
 use Rattle.block.specs.Block.{front}
 use Rattle.sm4.specs.Constants.{sbox, FK, ck, CK, CKs}
 use Rattle.sm4.specs.Cipher.{quad, flat, four, Sbox, τ, L, L′, T, T′, F, round, rounds, made, R, enc, roundKeys, encrypted}
@@ -32,5 +32,5 @@ abbrev pub sealed : List ℕ
 sealed = coveredP12 ++ (0x7f ∷ 0x00 ∷ 0x0b ∷ 5 ∷ 4 ∷ 64 ∷ 0xa4 ∷ 0x7a ∷ 0x92 ∷ 0x99 ∷ 0xc7 ∷ 0xb8 ∷ 0x45 ∷ 0x6c ∷ [])
 
 pub accepted-example : readOf sealed key ≡ record { number = 0; calls = 3; contents = record { year = 2026; month = 11; day = 4; amount = 500; «lot_at» = 14; «lot_len» = 2 } }
-unfolding pick firstOf bitsN digit numOf bytesBits flatMap words zeros xorB zipWith xor sameB rotl leftmost filled shiftl double halvesFlipped everySecond front sbox FK ck CK CKs quad flat four Sbox τ L L′ T T′ F round rounds made R enc roundKeys encrypted cipherAt methodAt complete gap oneGap prefix suffix pad D algorithmAt step steps some H G mac tagOf callsOf bitsOf bytesFor byteGroups tagBytes keysOf settingsFaults algorithmWrong paddingWrong sizeWrong keyBytes keyBytesWrong keysSame keysWeak tagLengthWrong tagAt callsAt outside anyOutside twoBytes lengthOf value endOf fieldFaults digitAt twoDigits yearOf monthOf dayOf days leap daysIn dateWrong lotAt amountAt sealAt lotField amountField sealField covered amountOf expiryFaults lotFaults amountFaults sealFaults layoutFaults agreementNamed tagNamed sealDefined sealCalls sealWrong faultsUnder contentsOf acceptedSlip readUnder readOf
+unfolding pick firstOf bitsN digit numOf bytesBits flatMap words zeros xorB zipWith xor sameBytes rotl leftmost filled shiftl double halvesFlipped everySecond front sbox FK ck CK CKs quad flat four Sbox τ L L′ T T′ F round rounds made R enc roundKeys encrypted cipherAt methodAt complete gap oneGap prefix suffix pad D algorithmAt step steps some H G mac tagOf callsOf bitsOf bytesFor byteGroups tagBytes keysOf settingsFaults algorithmWrong paddingWrong sizeWrong keyBytes keyBytesWrong keysSame keysWeak tagLengthWrong tagAt callsAt outside anyOutside twoBytes lengthOf value endOf fieldFaults digitAt twoDigits yearOf monthOf dayOf days leap daysIn dateWrong lotAt amountAt sealAt lotField amountField sealField covered amountOf expiryFaults lotFaults amountFaults sealFaults layoutFaults agreementNamed tagNamed sealDefined sealCalls sealWrong faultsUnder contentsOf acceptedSlip readUnder readOf
 accepted-example = refl

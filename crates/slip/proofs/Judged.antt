@@ -13,7 +13,7 @@ use lib.Dec.{eqb}
 use denote.Ref.{RefT, now}
 use borrow.Author.Tests.{le-ltb, le-leb, eq-eqb, ne-eqb}
 use Rattle.bits.specs.Choice.{pick, Fault, _given_, firstOf}
-use Rattle.bits.specs.Str.{bytesBits, sameB}
+use Rattle.bits.specs.Str.{sameBytes}
 use Rattle.bits.proofs.Choice.{hit}
 use Rattle.bits.proofs.Faults.{Clear, passed, done, Numbered, also, none, first-clear, clear-first, clear-append, first-append, first-append-clear, first-same, numbered-append}
 use Rattle.cipher.specs.Cipher.{Cipher}
@@ -164,7 +164,7 @@ module _ (s : List ℕ) (clear : firstOf (layoutFaults s) ≡ 0) (A : Agreement)
       go false e = rw e refl
 
   abbrev same : Bool
-  same = sameB (bytesBits (tagNamed s)) (bytesBits (sealDefined A s keys))
+  same = sameBytes (tagNamed s) (sealDefined A s keys)
 
   by-fault : (n : ℕ) → firstOf (oneCallFaults A keys (length (covered s)) (coveredBits s) (tagLengthWrong (A .m) (length (tagNamed s)))) ≡ n
       → verdict s (pick (eqb n 0) (pick same (Yes (sealCalls A s keys)) (No (sealCalls A s keys))) (Refused n)) ≡ readUnder A s keys

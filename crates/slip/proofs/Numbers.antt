@@ -1,8 +1,9 @@
 -- Document 01's words about a slip, said of every answer that the contracts of `read` and `lot` allow: the number is that of the
 -- first fault, 0 where there is none, and never 7, 8 or 9; a refused slip reports zeros and no calls, an accepted one as many calls
--- as the definition's list has; the lot is the very bytes 14 and on of the slip, and the empty part of a refused one.
+-- as the definition's list has; the lot is the very bytes 14 and on of the slip, and the empty part of a refused one. And what is said
+-- of accepted slips in Whole.antt, of every such answer (`read-whole`, `read-seal`, `read-equal`, `reads-differ`).
 -- Assumes nothing.
-use mathlib.Core.Path.{_≡_, refl, sym, ap, _∙_}
+use mathlib.Core.Path.{_≡_, refl, sym, ap, _∙_, subst}
 use mathlib.Core.Bool.{Bool, true, false, _||_, _&&_, true≢false}
 use mathlib.Core.List.{List}
 use Prim.Native.Nat.{ℕ, zero, suc, _+_}
@@ -16,17 +17,20 @@ use borrow.Fn.Kinds.{Dens}
 use borrow.Author.Tests.{ne-eqb}
 use Rattle.bits.specs.Choice.{pick, Fault, firstOf}
 use Rattle.bits.specs.Once.{Allowed}
+use Rattle.bits.specs.Str.{bytesBits}
 use Rattle.bits.proofs.Faults.{Every, all, with, every-append, every-first}
+use Rattle.mac.proofs.OneBlock.{Apart}
 use Rattle.settings.specs.Faults.{settingsFaults}
+use Rattle.settings.specs.declared.Agreement.{Agreement}
 use Rattle.fields.specs.Field.{fieldFaults, lengthOf, value}
-use Rattle.fields.specs.Layout.{lotAt, lotField, expiryFaults, lotFaults, amountFaults, sealFaults, layoutFaults}
+use Rattle.fields.specs.Layout.{lotAt, lotField, covered, expiryFaults, lotFaults, amountFaults, sealFaults, layoutFaults}
 use Rattle.fields.specs.declared.Row.{Row}
 use Rattle.fields.proofs.Laid.{lot-place}
 use Rattle.slip.specs.Part.{seen, partOf, lotPart}
-use Rattle.slip.specs.Slip.{agreementNamed, sealCalls, faultsUnder, slipFaults, contentsOf, acceptedSlip, refusedSlip, readUnder, readOf}
+use Rattle.slip.specs.Slip.{agreementNamed, tagNamed, sealCalls, faultsUnder, slipFaults, contentsOf, acceptedSlip, refusedSlip, readUnder, readOf}
 use Rattle.slip.specs.declared.Slip.{Slip}
 use Rattle.slip.proofs.Judged.{believed}
-use Rattle.slip.proofs.Whole.{Accepted, Bytewise, Whole, whole}
+use Rattle.slip.proofs.Whole.{Accepted, sealOf, Whole, tag-defined, whole, equal-slips, seals-differ}
 use Rattle.slip.proofs.read.Kinds as read-k
 use Rattle.slip.proofs.read.Reads as read
 use Rattle.slip.proofs.lot.Kinds as lot-k
@@ -114,8 +118,29 @@ module _ (κs : Lfts 2) (a : Dens κs read-k.ps) (x : Allowed read-k.ps read-k.r
   read-fields h = ap (λ (r : Slip). r .contents) (x .ensures ∙ accepted-is (a .0 .now) (a .1 .0 .now) h)
 
   -- a slip that was accepted was judged whole
-  pub read-whole : Bytewise (a .0 .now) → x .result .number ≡ 0 → Whole (a .0 .now) (a .1 .0 .now)
-  read-whole fit e = whole (a .0 .now) (a .1 .0 .now) fit (sym read-number ∙ e)
+  read-accepted : x .result .number ≡ 0 → Accepted (a .0 .now) (a .1 .0 .now)
+  read-accepted e = sym read-number ∙ e
+
+  pub read-whole : x .result .number ≡ 0 → Whole (a .0 .now) (a .1 .0 .now)
+  read-whole e = whole (a .0 .now) (a .1 .0 .now) (read-accepted e)
+
+  -- and its seal is the defined one, every byte
+  pub read-seal : x .result .number ≡ 0 → tagNamed (a .0 .now) ≡ sealOf (a .0 .now) (a .1 .0 .now)
+  read-seal e = tag-defined (a .0 .now) (a .1 .0 .now) (read-accepted e)
+
+-- two slips that were accepted under the same keys and name the same agreement: they are one where the covered bytes are; and where they
+-- are not one, their tags are full and their covered bits differ inside one stretch of 128 alone, their seals differ
+module _ (κs : Lfts 2) (a : Dens κs read-k.ps) (x : Allowed read-k.ps read-k.r read.Learnt κs a) (λs : Lfts 2) (b : Dens λs read-k.ps) (y : Allowed read-k.ps read-k.r read.Learnt λs b)
+    (keyed : b .1 .0 .now ≡ a .1 .0 .now) (named : agreementNamed (a .0 .now) ≡ agreementNamed (b .0 .now)) (good-x : x .result .number ≡ 0) (good-y : y .result .number ≡ 0) where
+  second : Accepted (b .0 .now) (a .1 .0 .now)
+  second = subst (λ (k : List ℕ). Accepted (b .0 .now) k) keyed (read-accepted λs b y good-y)
+
+  pub read-equal : covered (a .0 .now) ≡ covered (b .0 .now) → a .0 .now ≡ b .0 .now
+  read-equal = equal-slips (a .0 .now) (b .0 .now) (a .1 .0 .now) (read-accepted κs a x good-x) second named
+
+  pub reads-differ : agreementNamed (b .0 .now) .m ≡ 128 → (j : ℕ) → Apart 128 j (bytesBits (covered (a .0 .now))) (bytesBits (covered (b .0 .now)))
+      → ¬ (a .0 .now ≡ b .0 .now) → ¬ (tagNamed (a .0 .now) ≡ tagNamed (b .0 .now))
+  reads-differ = seals-differ (a .0 .now) (b .0 .now) (a .1 .0 .now) (read-accepted κs a x good-x) second named
 
 module _ (κs : Lfts 2) (a : Dens κs lot-k.ps) (x : Allowed lot-k.ps lot-k.r lot.Learnt κs a) where
   -- an accepted slip's lot is the value of its field 02, and begins at its byte 14

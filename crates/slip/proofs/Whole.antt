@@ -16,7 +16,7 @@ use lib.Dec.{ltb}
 use borrow.Author.Tests.{not-false, ltb-true, ltb-false}
 use Rattle.bits.specs.Choice.{firstOf}
 use Rattle.bits.specs.Str.{bytesBits}
-use Rattle.bits.proofs.Strings.{sameB-eq}
+use Rattle.bits.proofs.Same.{sameBytes-eq}
 use Rattle.bits.proofs.Packed.{length-bytesBits, bytesBits-inj}
 use Rattle.cipher.specs.Cipher.{Cipher}
 use Rattle.cipher.specs.Ciphers.{cipherAt}
@@ -25,7 +25,6 @@ use Rattle.mac.specs.Padding.{methodAt}
 use Rattle.mac.specs.Algorithm.{algorithmAt}
 use Rattle.mac.specs.Tag.{bitsOf, tagBytes}
 use Rattle.mac.proofs.OneBlock.{Apart}
-use Rattle.mac.proofs.TagBytes.{tagBytes-fit}
 use Rattle.mac.proofs.Promised.{Promised, fullBytes, promised-at}
 use Rattle.keys.specs.Given.{keysOf}
 use Rattle.settings.specs.Answers.{settingsOf}
@@ -37,7 +36,7 @@ use Rattle.fields.specs.Date.{yearOf, monthOf, dayOf}
 use Rattle.fields.specs.Layout.{sealAt, lotField, amountField, sealField, covered, amountOf}
 use Rattle.fields.proofs.Formed.{Within, within-all, end-whole}
 use Rattle.fields.proofs.Dates.{Real, real-date}
-use Rattle.fields.proofs.Whole.{value-long, seal-alone, covered-then-seal, four-fields}
+use Rattle.fields.proofs.Whole.{Bytewise, value-long, seal-alone, covered-then-seal, four-fields, slip-bytes}
 use Rattle.slip.specs.Slip.{sealValue, agreementNamed, tagNamed, sealDefined, sealWrong, slipFaults}
 use Rattle.settings.specs.declared.Agreement.{Agreement}
 use Rattle.slip.proofs.Judged.{Believed, believed}
@@ -45,10 +44,6 @@ use Rattle.slip.proofs.Judged.{Believed, believed}
 -- no rule refuses the slip
 abbrev pub Accepted : List ℕ → List ℕ → Type 0
 Accepted s keys = firstOf (slipFaults s keys) ≡ 0
-
--- each number is a byte
-abbrev pub Bytewise : List ℕ → Type 0
-Bytewise s = (i : ℕ) → getD s i 0 < 256
 
 -- ---- what is said
 
@@ -68,14 +63,10 @@ pub record Whole (s keys : List ℕ) : Type 0 where
 
 -- ---- the seal
 
-module _ (s keys : List ℕ) (fit : Bytewise s) (yes : Accepted s keys) where
+module _ (s keys : List ℕ) (yes : Accepted s keys) where
   good : Believed (agreementNamed s) s keys
   unfolding slipFaults
   good = believed (agreementNamed s) s keys yes
-
-  fit-seal : Bytewise (sealField s)
-  unfolding sealField
-  fit-seal i = subst (λ (x : ℕ). x < 256) (sym (getD-drop (sealAt s) s i 0)) (fit (sealAt s + i))
 
   seal-value : value (sealField s) ≡ drop 3 (sealField s)
   unfolding value
@@ -86,19 +77,10 @@ module _ (s keys : List ℕ) (fit : Bytewise s) (yes : Accepted s keys) where
       ended : length (sealField s) ≤ 3 + lengthOf (sealField s)
       ended = omega (arith, good .fields .ended, end-whole (sealField s) (good .fields .seal .whole))
 
-  fit-tag : Bytewise (tagNamed s)
-  unfolding tagNamed
-  fit-tag i =
-      let e = ap (λ (l : List ℕ). getD (drop 3 l) i 0) seal-value ∙ ap (λ (l : List ℕ). getD l i 0) (drop-drop 3 3 (sealField s)) ∙ getD-drop (3 + 3) (sealField s) i 0 in
-      subst (λ (x : ℕ). x < 256) (sym e) (fit-seal (3 + 3 + i))
-
   -- the seal's bytes are the defined ones, all of them
   pub tag-defined : tagNamed s ≡ sealOf s keys
-  unfolding sealWrong sealDefined
-  tag-defined =
-      let T = tagAt (settingsOf (agreementNamed s)) (keysOf keys) (covered s) (8 * length (covered s)) in
-      let same = sameB-eq (bytesBits (tagNamed s)) (bytesBits (tagBytes T)) (not-false _ (good .seal)) in
-      bytesBits-inj (tagNamed s) (tagBytes T) fit-tag (tagBytes-fit T) (omega (arith, length-bytesBits (tagNamed s), length-bytesBits (tagBytes T), ap length same)) same
+  unfolding sealWrong
+  tag-defined = sameBytes-eq (tagNamed s) (sealOf s keys) (not-false _ (good .seal))
 
   -- algorithm, padding and m stand before them
   named-first : value (sealField s) ≡ sealValue (agreementNamed s) (tagNamed s)
@@ -140,14 +122,14 @@ fit-covered s fit i = go (ltb i (sealAt s)) refl
     go true e = subst (λ (x : ℕ). x < 256) (sym (getD-take (sealAt s) s i 0 (ltb-true i (sealAt s) e))) (fit i)
     go false e = subst (λ (x : ℕ). x < 256) (sym (List·getD-eq-default (take (sealAt s) s) 0 (omega (arith, length-take (sealAt s) s, ltb-false i (sealAt s) e)))) (omega arith)
 
-module _ (s t keys : List ℕ) (fits : Bytewise s) (fitt : Bytewise t) (yes-s : Accepted s keys) (yes-t : Accepted t keys)
+module _ (s t keys : List ℕ) (yes-s : Accepted s keys) (yes-t : Accepted t keys)
     (agree : agreementNamed s ≡ agreementNamed t) where
   pub equal-slips : covered s ≡ covered t → s ≡ t
   unfolding sealDefined
   equal-slips e =
-      covered-then-seal s (good s keys fits yes-s .fields)
-      ∙ ap₂ _++_ e (seal-is s keys fits yes-s ∙ rw (agree, e) refl ∙ sym (seal-is t keys fitt yes-t))
-      ∙ sym (covered-then-seal t (good t keys fitt yes-t .fields))
+      covered-then-seal s (good s keys yes-s .fields)
+      ∙ ap₂ _++_ e (seal-is s keys yes-s ∙ rw (agree, e) refl ∙ sym (seal-is t keys yes-t))
+      ∙ sym (covered-then-seal t (good t keys yes-t .fields))
 
   -- the seal of a slip under t's settings at full length, as demand 3 speaks of it
   full-seal : agreementNamed t .m ≡ 128 → (x : List ℕ) → sealDefined (agreementNamed t) x keys ≡ fullBytes (cipherAt 1) (algorithmAt (agreementNamed t .algorithm)) (methodAt (agreementNamed t .padding)) (keysOf keys) (bytesBits (covered x))
@@ -159,7 +141,7 @@ module _ (s t keys : List ℕ) (fits : Bytewise s) (fitt : Bytewise t) (yes-s : 
   pub seals-differ : agreementNamed t .m ≡ 128 → (j : ℕ) → Apart 128 j (bytesBits (covered s)) (bytesBits (covered t)) → ¬ (s ≡ t) → ¬ (tagNamed s ≡ tagNamed t)
   seals-differ full j h differ e =
       let long : length (covered s) ≡ length (covered t) = omega (arith, h .same-length, length-bytesBits (covered s), length-bytesBits (covered t)) in
-      let of-s : tagNamed s ≡ sealDefined (agreementNamed t) s keys = tag-defined s keys fits yes-s ∙ ap (λ (A : Agreement). sealDefined A s keys) agree in
+      let of-s : tagNamed s ≡ sealDefined (agreementNamed t) s keys = tag-defined s keys yes-s ∙ ap (λ (A : Agreement). sealDefined A s keys) agree in
       promised-at 1 (algorithmAt (agreementNamed t .algorithm)) (methodAt (agreementNamed t .padding)) (keysOf keys) .differs-bytes j (bytesBits (covered s)) (bytesBits (covered t)) (subst (λ (k : ℕ). Apart k j (bytesBits (covered s)) (bytesBits (covered t))) (sym sm4-width) h)
-      (λ same. differ (equal-slips (bytesBits-inj (covered s) (covered t) (fit-covered s fits) (fit-covered t fitt) long same)))
-      (sym (full-seal full s) ∙ sym of-s ∙ e ∙ tag-defined t keys fitt yes-t ∙ full-seal full t)
+      (λ same. differ (equal-slips (bytesBits-inj (covered s) (covered t) (fit-covered s (slip-bytes s (good s keys yes-s .fields))) (fit-covered t (slip-bytes t (good t keys yes-t .fields))) long same)))
+      (sym (full-seal full s) ∙ sym of-s ∙ e ∙ tag-defined t keys yes-t ∙ full-seal full t)

@@ -6,7 +6,7 @@ use Prim.Native.Nat.{ℕ, _+_, _*_}
 use lib.ListN.{length, drop, getD}
 use lib.Dec.{eqb}
 use Rattle.bits.specs.Choice.{pick, Fault, _given_, firstOf}
-use Rattle.bits.specs.Str.{bytesBits, sameB}
+use Rattle.bits.specs.Str.{sameBytes}
 use Rattle.mac.specs.Tag.{tagBytes}
 use Rattle.keys.specs.Given.{keysOf}
 use Rattle.settings.specs.Faults.{settingsFaults}
@@ -42,7 +42,7 @@ sealCalls A s keys = callsAt (settingsOf A) (keysOf keys) (covered s) (8 * lengt
 
 -- 30: the seal is wrong
 unfoldable pub sealWrong : Agreement → List ℕ → List ℕ → Bool
-sealWrong A s keys = not (sameB (bytesBits (tagNamed s)) (bytesBits (sealDefined A s keys)))
+sealWrong A s keys = not (sameBytes (tagNamed s) (sealDefined A s keys))
 
 -- ---- the order: 20 to 24 field by field, then 1 to 6, then 10, then 30
 
