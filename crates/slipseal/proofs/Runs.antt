@@ -1,0 +1,256 @@
+-- The promises through C: said of every answer that the contracts of the exported functions allow. A struct goes from call to call, and
+-- the record that it stands for goes the way of the session's own record (`handed-in`, `run-inward`). So a run of calls of any kind
+-- ends with the definition's tag, calls and room for the joined bits of its accepted pieces (`c-joined`); two such runs of full tags
+-- (`c-runs-differ`), and two calls of `slipseal_make` (`c-make-differs`), keep demand 3; a refused call hands back the very struct and
+-- leaves the room (`piece-back`, `finish-back`, `make-untouched`); an accepted start or piece leaves the session open (`start-open`,
+-- `piece-open`).
+-- Assumes nothing.
+use mathlib.Core.Path.{_≡_, refl, sym, ap, ap₂, _∙_, subst}
+use mathlib.Core.Bool.{Bool, true, false}
+use mathlib.Core.List.{List, [], _∷_, _++_}
+use Prim.Native.Nat.{ℕ}
+use lib.Dec.{eqb}
+use lib.ListN.{length, take, drop}
+use contract.Lifetimes.{Lfts}
+use borrow.Author.Needs.{needs}
+use borrow.Author.Tests.{ne-eqb, eqb-false}
+use borrow.Fn.Kinds.{Dens, GoodsP}
+use Rattle.bits.specs.Choice.{pick}
+use Rattle.bits.specs.Once.{Allowed}
+use Rattle.bits.specs.Str.{Bits}
+use Rattle.mac.specs.Tag.{bitsOf, bytesFor}
+use Rattle.mac.specs.Session.{joined}
+use Rattle.mac.proofs.OneBlock.{Apart}
+use Rattle.keys.specs.Given.{keysOf}
+use Rattle.settings.specs.Answers.{numberOf, reportedCalls}
+use Rattle.settings.specs.declared.Agreement.{Agreement}
+use Rattle.settings.specs.declared.Outcome as settings
+use Rattle.settings.proofs.Numbers.{Unrefused}
+use Rattle.tag.specs.OneCall.{makeOf}
+use Rattle.tag.proofs.Numbers.{tagged, listed, madeOf, made-of, refused-of}
+use Rattle.tag.proofs.Full.{n, size, full-differ}
+use Rattle.session.specs.declared.Session as session
+use Rattle.session.specs.declared.Step as session-step
+use Rattle.session.specs.Record.{cleared}
+use Rattle.session.specs.Calls.{startOf, pieceOf, finishOf}
+use Rattle.session.proofs.Joined.{Offered, Act, offers, ends, answered, handed, gathered, Running, ending, refused-piece, refused-finish, joined-bits}
+use Rattle.session.proofs.StaysOpen.{start-opens, piece-opens}
+use Rattle.slipseal.specs.declared.Answer.{Answer}
+use Rattle.slipseal.specs.declared.Session.{Session}
+use Rattle.slipseal.specs.declared.Step.{Step}
+use Rattle.slipseal.specs.Border.{yesOf, toldOf, toldMake, inward, outward, handedOut, handedBack, finishedBack}
+use Rattle.slipseal.proofs.Crossing.{out-and-in}
+use Rattle.slipseal.proofs.slipseal_make.Kinds as make-k
+use Rattle.slipseal.proofs.slipseal_make.Reads as make
+use Rattle.slipseal.proofs.slipseal_start.Kinds as start-k
+use Rattle.slipseal.proofs.slipseal_start.Reads as start
+use Rattle.slipseal.proofs.slipseal_piece.Kinds as piece-k
+use Rattle.slipseal.proofs.slipseal_piece.Reads as piece
+use Rattle.slipseal.proofs.slipseal_finish.Kinds as finish-k
+use Rattle.slipseal.proofs.slipseal_finish.Reads as finish
+
+abbrev pub Making : (κs : Lfts 3) → Dens κs make-k.ps → Type 0
+Making κs a = Allowed make-k.ps make-k.r make.Learnt κs a
+
+abbrev pub Started : (κs : Lfts 1) → Dens κs start-k.ps → Type 0
+Started κs a = Allowed start-k.ps start-k.r start.Learnt κs a
+
+abbrev pub Pieced : (κs : Lfts 1) → Dens κs piece-k.ps → Type 0
+Pieced κs a = Allowed piece-k.ps piece-k.r piece.Learnt κs a
+
+abbrev pub Finished : (κs : Lfts 1) → Dens κs finish-k.ps → Type 0
+Finished κs a = Allowed finish-k.ps finish-k.r finish.Learnt κs a
+
+abbrev pub offered : (κs : Lfts 1) → Dens κs piece-k.ps → Offered
+offered κs a = record { bytes = a .1 .0 .now; bits = a .1 .1 .0 }
+
+-- ---- what is handed back
+
+module _ (came : Session) (t : session-step.Step) where
+  -- the answer, refused or not
+  back-answer : handedBack came t .answer ≡ toldOf (t .answer)
+  unfolding handedBack handedOut pick
+  back-answer = go (eqb (numberOf (t .answer)) 0)
+    where
+      go : (b : Bool) → pick b (handedOut t) (record { answer = toldOf (t .answer); session = came }) .answer ≡ toldOf (t .answer)
+      go true = refl
+      go false = refl
+
+  back-number : handedBack came t .answer .number ≡ numberOf (t .answer)
+  unfolding toldOf
+  back-number = ap (λ (r : Answer). r .number) back-answer
+
+  -- what a refusal hands back
+  back-came : ¬ (numberOf (t .answer) ≡ 0) → handedBack came t .session ≡ came
+  unfolding handedBack pick
+  back-came u = rw (ne-eqb (numberOf (t .answer)) 0 u) refl
+
+  -- the record that it stands for is the session's own
+  handed-in : (¬ (numberOf (t .answer) ≡ 0) → t .session ≡ inward came) → inward (handedBack came t .session) ≡ t .session
+  unfolding handedBack handedOut pick
+  handed-in back = go (eqb (numberOf (t .answer)) 0) refl
+    where
+      go : (b : Bool) → eqb (numberOf (t .answer)) 0 ≡ b → inward (pick b (handedOut t) (record { answer = toldOf (t .answer); session = came }) .session) ≡ t .session
+      go true e = out-and-in (t .session)
+      go false e = sym (back (eqb-false _ 0 e))
+
+-- ---- one call
+
+module _ (κs : Lfts 3) (a : Dens κs make-k.ps) (x : Making κs a) where
+  abbrev one : settings.Outcome × List ℕ
+  one = makeOf (a .0) (a .1 .0 .now) (a .1 .1 .0 .now) (a .1 .1 .1 .0) (a .1 .1 .1 .1 .0 .now)
+
+  -- the room at the end
+  abbrev pub roomLeft : List ℕ
+  roomLeft = x .last .1 .1 .1 .1 .0
+
+  abbrev pub bitsGiven : Bits
+  bitsGiven = bitsOf (a .1 .1 .0 .now) (a .1 .1 .1 .0)
+
+  make-answer : x .result .number ≡ numberOf (one .0)
+  unfolding toldMake toldOf
+  make-answer = ap (λ (r : Answer × List ℕ). r .0 .number) (x .ensures)
+
+  make-left : roomLeft ≡ one .1
+  unfolding toldMake
+  make-left = ap (λ (r : Answer × List ℕ). r .1) (x .ensures)
+
+  pub make-untouched : ¬ (x .result .number ≡ 0) → roomLeft ≡ a .1 .1 .1 .1 .0 .now
+  make-untouched u = make-left ∙ ap (λ (r : settings.Outcome × List ℕ). r .1) (refused-of (a .0) (a .1 .0 .now) (a .1 .1 .0 .now) (a .1 .1 .1 .0) (a .1 .1 .1 .1 .0 .now) (λ z. u (make-answer ∙ z)))
+
+  make-made : x .result .number ≡ 0 → roomLeft ≡ tagged (a .0) (keysOf (a .1 .0 .now)) bitsGiven ++ drop (bytesFor (a .0 .m)) (a .1 .1 .1 .1 .0 .now)
+  make-made u = make-left ∙ ap (λ (r : settings.Outcome × List ℕ). r .1) (made-of (a .0) (a .1 .0 .now) (a .1 .1 .0 .now) (a .1 .1 .1 .0) (a .1 .1 .1 .1 .0 .now) (sym make-answer ∙ u))
+
+module _ (κs : Lfts 3) (a : Dens κs make-k.ps) (x : Making κs a) (λs : Lfts 3) (b : Dens λs make-k.ps) (y : Making λs b) where
+  pub c-make-differs : a .0 ≡ b .0 → a .0 .m ≡ n → a .1 .0 .now ≡ b .1 .0 .now → x .result .number ≡ 0 → y .result .number ≡ 0
+      → (j : ℕ) → Apart n j (bitsGiven κs a x) (bitsGiven λs b y) → ¬ (bitsGiven κs a x ≡ bitsGiven λs b y) → ¬ (take size (roomLeft κs a x) ≡ take size (roomLeft λs b y))
+  c-make-differs same full keys ux uy j h ne e =
+      full-differ (a .0) full (keysOf (a .1 .0 .now)) j _ _ h ne _ _
+      (ap (take size) (sym (make-made κs a x ux)) ∙ e
+      ∙ ap (take size) (make-made λs b y uy ∙ ap₂ (λ (A : Agreement) (s : List ℕ). tagged A (keysOf s) (bitsGiven λs b y) ++ drop (bytesFor (A .m)) (b .1 .1 .1 .1 .0 .now)) (sym same) (sym keys)))
+
+module _ (κs : Lfts 1) (a : Dens κs start-k.ps) (x : Started κs a) where
+  abbrev begun : session-step.Step
+  begun = startOf (a .0) (a .1 .0 .now) (a .1 .1 .0)
+
+  start-number : x .result .answer .number ≡ numberOf (begun .answer)
+  unfolding handedOut toldOf
+  start-number = ap (λ (r : Step). r .answer .number) (x .ensures)
+
+  -- the record that the struct stands for
+  start-in : inward (x .result .session) ≡ begun .session
+  unfolding handedOut
+  start-in = ap (λ (r : Step). inward (r .session)) (x .ensures) ∙ out-and-in (begun .session)
+
+  pub start-open : x .result .answer .number ≡ 0 → Running (inward (x .result .session))
+  start-open u = let e = start-in in rw e (start-opens (a .0) (a .1 .0 .now) (a .1 .1 .0) (sym start-number ∙ u))
+
+module _ (κs : Lfts 1) (a : Dens κs piece-k.ps) (x : Pieced κs a) where
+  abbrev fed : session-step.Step
+  fed = pieceOf (inward (a .0)) (a .1 .0 .now) (a .1 .1 .0)
+
+  piece-number : x .result .answer .number ≡ numberOf (fed .answer)
+  piece-number = ap (λ (r : Step). r .answer .number) (x .ensures) ∙ back-number (a .0) fed
+
+  pub piece-back : ¬ (x .result .answer .number ≡ 0) → x .result .session ≡ a .0
+  piece-back u = ap (λ (r : Step). r .session) (x .ensures) ∙ back-came (a .0) fed (λ z. u (piece-number ∙ z))
+
+  piece-in : inward (x .result .session) ≡ fed .session
+  piece-in = ap (λ (r : Step). inward (r .session)) (x .ensures) ∙ handed-in (a .0) fed (λ u. refused-piece (inward (a .0)) (offered κs a) u)
+
+  pub piece-open : GoodsP κs piece-k.ps a → x .result .answer .number ≡ 0 → Running (inward (x .result .session))
+  unfolding inward
+  piece-open good u =
+      let wide : (length (a .0 .chain) ≡ 16) × (length (a .0 .held) ≡ 16) = search needs in
+      let e = piece-in in
+      rw e (piece-opens (inward (a .0)) (wide .0) (wide .1) (offered κs a) (sym piece-number ∙ u))
+
+module _ (κs : Lfts 1) (a : Dens κs finish-k.ps) (x : Finished κs a) where
+  abbrev closing : session-step.Step × List ℕ
+  closing = finishOf (inward (a .0)) (a .1 .0 .now)
+
+  finish-is : (x .result ≡ handedBack (a .0) (closing .0)) × (x .last .1 .0 ≡ closing .1)
+  unfolding finishedBack
+  finish-is = (ap (λ (r : Step × List ℕ). r .0) (x .ensures), ap (λ (r : Step × List ℕ). r .1) (x .ensures))
+
+  finish-number : x .result .answer .number ≡ numberOf (closing .0 .answer)
+  finish-number = ap (λ (r : Step). r .answer .number) (finish-is .0) ∙ back-number (a .0) (closing .0)
+
+  pub finish-back : ¬ (x .result .answer .number ≡ 0) → (x .result .session ≡ a .0) × (x .last .1 .0 ≡ a .1 .0 .now)
+  finish-back u =
+      let refused : ¬ (numberOf (closing .0 .answer) ≡ 0) = λ z. u (finish-number ∙ z) in
+      (ap (λ (r : Step). r .session) (finish-is .0) ∙ back-came (a .0) (closing .0) refused, finish-is .1 ∙ refused-finish (inward (a .0)) (a .1 .0 .now) refused .1)
+
+  finish-in : inward (x .result .session) ≡ closing .0 .session
+  finish-in = ap (λ (r : Step). inward (r .session)) (finish-is .0) ∙ handed-in (a .0) (closing .0) (λ u. refused-finish (inward (a .0)) (a .1 .0 .now) u .0)
+
+-- ---- calls one after the other
+
+pub data Run : Session → List Act → Session → Type 0 where
+  end : {s : Session} → Run s [] s
+  pieced : {κs : Lfts 1} {a : Dens κs piece-k.ps} {cs : List Act} {z : Session} (x : Pieced κs a) → Run (x .result .session) cs z → Run (a .0) (offers (offered κs a) ∷ cs) z
+  tried : {κs : Lfts 1} {a : Dens κs finish-k.ps} {cs : List Act} {z : Session} (x : Finished κs a) → Run (x .result .session) cs z → Run (a .0) (ends (a .1 .0 .now) ∷ cs) z
+
+run-inward : {s z : Session} {cs : List Act} → Run s cs z → inward z ≡ handed (inward s) cs
+unfolding handed answered
+run-inward end = refl
+run-inward (pieced {κs} {a} {cs} x r) = run-inward r ∙ ap (λ (t : session.Session). handed t cs) (piece-in κs a x)
+run-inward (tried {κs} {a} {cs} x r) = run-inward r ∙ ap (λ (t : session.Session). handed t cs) (finish-in κs a x)
+
+-- a whole run: a start that was accepted, calls, a finish that made a tag
+pub record Ran : Type 0 where
+  pub start-at : Lfts 1
+  pub given : Dens start-at start-k.ps
+  pub first : Started start-at given
+  pub accepted : first .result .answer .number ≡ 0
+  pub acts : List Act
+  pub finish-at : Lfts 1
+  pub came : Dens finish-at finish-k.ps
+  pub between : Run (first .result .session) acts (came .0)
+  pub last : Finished finish-at came
+  pub made : last .result .answer .number ≡ 0
+
+module _ (r : Ran) where
+  abbrev pub agreed : Agreement
+  agreed = r .given .0
+
+  abbrev pub keyed : List ℕ
+  keyed = r .given .1 .0 .now
+
+  abbrev pub told : Bits
+  told = joined (gathered (inward (r .first .result .session)) (r .acts))
+
+  abbrev pub left : List ℕ
+  left = r .last .last .1 .0
+
+  -- number 0, yes, the calls of the definition's list; the struct closed and zero; the tag's bytes, and the rest of the room
+  abbrev pub Ended : Step × List ℕ
+  Ended = (
+    record { answer = record { number = 0; yes = 1; calls = listed agreed (keysOf keyed) told }; session = outward cleared },
+    tagged agreed (keysOf keyed) told ++ drop (bytesFor (agreed .m)) (r .came .1 .0 .now),
+  )
+
+  pub c-joined : (r .last .result, left) ≡ Ended
+  unfolding finishedBack handedBack handedOut toldOf yesOf numberOf reportedCalls pick
+  c-joined =
+      let room = r .came .1 .0 .now in
+      let d = r .given .1 .1 .0 in
+      let began = start-in (r .start-at) (r .given) (r .first) in
+      let at-end : inward (r .came .0) ≡ handed (startOf agreed keyed d .session) (r .acts) = run-inward (r .between) ∙ ap (λ (t : session.Session). handed t (r .acts)) began in
+      let made-so : Unrefused (finishOf (handed (startOf agreed keyed d .session) (r .acts)) room .0 .answer) =
+          ap (λ (t : session.Session). numberOf (finishOf t room .0 .answer)) (sym at-end) ∙ sym (finish-number (r .finish-at) (r .came) (r .last)) ∙ r .made in
+      r .last .ensures
+      ∙ ap (λ (t : session.Session). finishedBack (r .came .0) (finishOf t room)) at-end
+      ∙ ap (finishedBack (r .came .0)) (joined-bits agreed keyed d (sym (start-number (r .start-at) (r .given) (r .first)) ∙ r .accepted) (r .acts) room made-so)
+      ∙ ap (λ (t : session.Session). finishedBack (r .came .0) (ending (madeOf agreed keyed (joined (gathered t (r .acts))) room))) (sym began)
+
+-- ---- demand 3 over two runs
+
+module _ (r t : Ran) where
+  pub c-runs-differ : agreed r ≡ agreed t → agreed r .m ≡ n → keyed r ≡ keyed t → (j : ℕ) → Apart n j (told r) (told t) → ¬ (told r ≡ told t)
+      → ¬ (take size (left r) ≡ take size (left t))
+  c-runs-differ same full keys j h ne e =
+      full-differ (agreed r) full (keysOf (keyed r)) j (told r) (told t) h ne _ _
+      (sym (ap (λ (w : Step × List ℕ). take size (w .1)) (c-joined r)) ∙ e
+      ∙ ap (λ (w : Step × List ℕ). take size (w .1)) (c-joined t)
+      ∙ ap₂ (λ (A : Agreement) (s : List ℕ). take size (tagged A (keysOf s) (told t) ++ drop (bytesFor (A .m)) (t .came .1 .0 .now))) (sym same) (sym keys))
