@@ -1,6 +1,5 @@
-//! Deterministic pseudo-random cases for comparing two implementations. No heap is needed: the state
-//! is one 64-bit number and a case fits in fixed buffers. Numbers are unsigned, 64 bits, and
-//! wrap; long constants are hexadecimal; the tables FAR, BITS and AMOUNTS stand below.
+//! Deterministic pseudo-random draws for comparing two implementations: settings and slips. Numbers are unsigned, 64 bits, and
+//! wrap; long constants are hexadecimal; the tables stand below.
 //!
 //! # The draws (xorshift64*)
 //!
@@ -8,11 +7,10 @@
 //! - draw: `x ^= x >> 12; x ^= x << 25; x ^= x >> 27;` the result is `x * 2545F4914F6CDD1D`.
 //! - below(n): `(draw >> 32) % n`.
 //! - fill: each byte of the buffer, first to last, is below(256).
-//! - far: `FAR[below(8)]`. near(c): by below(16): 0: c - 1; 1: c + 1; 2: below(25); else c.
+//! - far: `FAR[below(8)]`.
 //!
-//! "by below(n): 0: A; 1: B; else C" draws below(n) once and then only what the chosen case draws. Cases
-//! of one kind follow each other on one state, so a case is fixed by the state before it. Draws are
-//! made in the order written, and never depend on an answer.
+//! "by below(n): 0: A; 1: B; else C" draws below(n) once and then only what the chosen case draws. Draws are made in the order
+//! written.
 //!
 //! # Settings
 //!
@@ -29,46 +27,7 @@
 //!
 //! size(m) is ⌈m/8⌉ for m from 1 to 128, else 16.
 //!
-//! # Message
-//!
-//! bits, by below(4): 0: below(641); else b = 128 * below(6) + below(17), then b - 8, at least 0 and at
-//! most 640. Then fill 96 bytes.
-//!
-//! # One-call case
-//!
-//! 1. Settings. 2. Message; n = ⌈bits/8⌉. 3. by below(16): 0: n + 1; 1: n - 1 (at least 0); else n;
-//!    the message slice is the first so many bytes. 4. by below(32): 0: bits = BITS[below(8)]; else as is.
-//! 5. fill 24 tag bytes. 6. room = near(size(m)). 7. offered = near(size(m)). 8. turn = below(256).
-//!
-//! Run: make with the first `room` tag bytes; put its number, yes, calls and all 24 tag bytes. If
-//! turn < 128, bit `turn` of the tag bytes (from the left) is turned. Check with the first `offered`
-//! tag bytes; put its number, yes, calls.
-//!
-//! # Session case
-//!
-//! 1. Settings. 2. Message. 3. declared, by below(8): 0: bits + 1; 1: bits - 1 (at least 0); 2: far;
-//!    else bits. 4. Start. The tag bytes are 24 times A5; at = 0. 5. below(10) times, by below(24):
-//!    - 0: piece of 0 bits, no bytes; 1: piece of 0 bits, message[0..1];
-//!    - 2: piece of 8 bits, message[0..2]; 3: piece of BITS[below(8)] bits, no bytes;
-//!    - 4: finish, room below(25); 5: forge, as below; 6: cut of below(bits - at + 1) bits;
-//!    - else cut of 8 * below((bits - at) / 8 + 1) bits.
-//! 6. Cut of bits - at bits. 7. finish, room near(size(m)). 8. finish, room 24.
-//!
-//! A cut of c bits is the piece of c bits with the bytes message[at/8 .. at/8 + ⌈c/8⌉]; then at += c,
-//! whatever the answer. A finish lends the first `room` tag bytes. Each call takes the record that
-//! the call before handed back. After each call put number, yes (0 for start and piece), calls, and
-//! the record: phase, part, algorithm, padding, m, declared, total, 32 key bytes, chain, waiting
-//! block. After a finish put the 24 tag bytes too.
-//!
-//! Forge, by below(14), changes the record before the next call:
-//! - 0: phase = below(4); 1: part = below(9); 2: algorithm = below(10); 3: padding = below(6);
-//! - 4: m = far; 5: declared = below(700); 6: total = below(700); 7: total = 8388609 + below(2);
-//! - 8: declared = 8388609; 9: key bytes 16..32 become 0..16; 10: fill the chain;
-//! - 11: i = below(16), then waiting byte i xor 1 << below(8);
-//! - 12: phase = 1, part = 0, total = 8388608 - 8 * below(48), then declared = 8388608 - below(2);
-//! - 13: phase = 2, part = 1 + below(7), total = part, waiting block all 0.
-//!
-//! # Slip case
+//! # A slip
 //!
 //! 1. Settings; algorithm, padding and m are cut to their lowest byte.
 //! 2. year, month, day, by below(8): 0: 1990 + below(120), below(14), below(33); 1: 2000 + below(100),
@@ -83,19 +42,10 @@
 //! 8. by below(12): 0: cut to below(length + 1) bytes; 1: one byte below(256) put after;
 //!    2: i = below(length), then byte i becomes below(256); 3: i = below(length), then byte i xor
 //!    1 << below(8); 4: the last byte xor 1 << below(8); else nothing.
-//!
-//! Run: read; put number, year, month, day, amount, calls, lot_at, lot_len.
-//!
-//! # Digest
-//!
-//! FNV-1a, 64 bits, over all that is put: from CBF29CE484222325, for each byte
-//! `d = (d ^ byte) * 100000001B3`. A number is put as 8 bytes, high first.
 
-use crate::call::{check, make, Agreement, Answer};
+use crate::call::{make, Agreement};
 use crate::mac::{m_limit, two_keys};
 use crate::padding::bytes_for;
-use crate::session::{self, Record};
-use crate::{hex, slip};
 
 pub const FAR: [u64; 8] = [0, 9, 129, 257, (1 << 32) + 1, (1 << 32) + 64, (1 << 63) + 8, u64::MAX];
 pub const BITS: [u64; 8] =
@@ -103,7 +53,7 @@ pub const BITS: [u64; 8] =
 pub const AMOUNTS: [u64; 8] = [0, 1, 255, 65_536, 999_999, 1_000_000, 1_000_001, 0xFFFF_FFFF];
 
 pub struct Random {
-    pub state: u64,
+    state: u64,
 }
 
 impl Random {
@@ -134,54 +84,6 @@ impl Random {
 
     fn one_of(&mut self, table: &[u64; 8]) -> u64 {
         table[self.below(8) as usize]
-    }
-
-    fn near(&mut self, count: u64) -> usize {
-        (match self.below(16) {
-            0 => count - 1,
-            1 => count + 1,
-            2 => self.below(25),
-            _ => count,
-        }) as usize
-    }
-}
-
-/// What the calls of the cases gave.
-pub struct Results {
-    pub digest: u64,
-    /// How often each answer number came (refusals and 0).
-    pub numbers: [u64; 31],
-    /// Whether inputs and results are printed.
-    pub show: bool,
-}
-
-impl Results {
-    pub fn new(show: bool) -> Results {
-        Results { digest: 0xCBF2_9CE4_8422_2325, numbers: [0; 31], show }
-    }
-
-    fn put(&mut self, what: &str, words: &[u64], bytes: &[&[u8]]) {
-        let words_bytes = words.iter().flat_map(|word| word.to_be_bytes());
-        for byte in words_bytes.chain(bytes.concat()) {
-            self.digest = (self.digest ^ u64::from(byte)).wrapping_mul(0x100_0000_01B3);
-        }
-        self.numbers[words[0] as usize] += 1;
-        self.print(what, words, bytes);
-    }
-
-    fn print(&self, what: &str, words: &[u64], bytes: &[&[u8]]) {
-        if self.show {
-            let words: String = words.iter().map(|word| format!(" {word}")).collect();
-            let bytes: String = bytes.iter().map(|part| format!(" {}.", hex(part))).collect();
-            println!("  {what}{words}{bytes}");
-        }
-    }
-
-    fn put_session(&mut self, what: &str, answer: Answer, r: &Record, tag: &[u8]) {
-        let Agreement { algorithm, padding, m } = r.agreement;
-        let words = [answer.number, answer.yes, answer.calls, r.phase, r.part, algorithm, padding, m];
-        let words = [&words[..], &[r.declared, r.total]].concat();
-        self.put(what, &words, &[&r.keys, &r.chain, &r.held, tag]);
     }
 }
 
@@ -249,132 +151,6 @@ impl Settings {
     }
 }
 
-/// The bit count and 96 bytes, of which the first ⌈bits/8⌉ are the message.
-pub fn message(r: &mut Random) -> (u64, [u8; 96]) {
-    let bits = match r.below(4) {
-        0 => r.below(641),
-        _ => (128 * r.below(6) + r.below(17)).saturating_sub(8).min(640),
-    };
-    let mut bytes = [0; 96];
-    r.fill(&mut bytes);
-    (bits, bytes)
-}
-
-pub fn one_call_case(r: &mut Random, results: &mut Results) {
-    let s = Settings::draw(r);
-    let (mut bits, bytes) = message(r);
-    let count = bytes_for(bits);
-    let count = match r.below(16) {
-        0 => count + 1,
-        1 => count.saturating_sub(1),
-        _ => count,
-    };
-    if r.below(32) == 0 {
-        bits = r.one_of(&BITS);
-    }
-    let mut tag = [0; 24];
-    r.fill(&mut tag);
-    let room = r.near(s.tag_size());
-    let offered = r.near(s.tag_size());
-    let turn = r.below(256) as usize;
-
-    let message = &bytes[..count as usize];
-    results.print("settings", &s.words(), &[s.keys()]);
-    results.print("bits, room, offered, turn", &[bits, room as u64, offered as u64, turn as u64], &[message]);
-    let made = make(s.agreement, s.keys(), message, bits, &mut tag[..room]);
-    results.put("make", &[made.number, made.yes, made.calls], &[&tag]);
-    if turn < 128 {
-        tag[turn / 8] ^= 0x80 >> (turn % 8);
-    }
-    let checked = check(s.agreement, s.keys(), message, bits, &tag[..offered]);
-    results.put("check", &[checked.number, checked.yes, checked.calls], &[]);
-}
-
-pub fn session_case(r: &mut Random, results: &mut Results) {
-    let s = Settings::draw(r);
-    let (bits, bytes) = message(r);
-    let declared = match r.below(8) {
-        0 => bits + 1,
-        1 => bits.saturating_sub(1),
-        2 => r.one_of(&FAR),
-        _ => bits,
-    };
-    results.print("settings", &[&s.words()[..], &[declared]].concat(), &[s.keys()]);
-    let (mut record, answer) = session::start(s.agreement, s.keys(), declared);
-    results.put_session("start", answer, &record, &[]);
-
-    let mut tag = [0xA5; 24];
-    let mut at = 0;
-    let give = |record: &mut Record, results: &mut Results, part: &[u8], bits: u64| {
-        let (next, answer) = session::piece(*record, part, bits);
-        results.print("piece of", &[bits], &[part]);
-        results.put_session("piece", answer, &next, &[]);
-        *record = next;
-    };
-    let mut end = |record: &mut Record, results: &mut Results, room: usize| {
-        let (next, answer) = session::finish(*record, &mut tag[..room]);
-        results.print("finish with room", &[room as u64], &[]);
-        results.put_session("finish", answer, &next, &tag);
-        *record = next;
-    };
-    for steps_left in (0..=r.below(10)).rev() {
-        let kind = if steps_left == 0 { 24 } else { r.below(24) };
-        match kind {
-            0 => give(&mut record, results, &[], 0),
-            1 => give(&mut record, results, &bytes[..1], 0),
-            2 => give(&mut record, results, &bytes[..2], 8),
-            3 => give(&mut record, results, &[], r.one_of(&BITS)),
-            4 => end(&mut record, results, r.below(25) as usize),
-            5 => {
-                forge(r, &mut record);
-                results.print("forged", &[record.phase, record.part, record.total], &[&record.held]);
-            }
-            _ => {
-                let left = bits - at;
-                let cut = match kind {
-                    6 => r.below(left + 1),
-                    24 => left,
-                    _ => 8 * r.below(left / 8 + 1),
-                };
-                let from = (at / 8) as usize;
-                give(&mut record, results, &bytes[from..from + bytes_for(cut) as usize], cut);
-                at += cut;
-            }
-        }
-    }
-    end(&mut record, results, r.near(s.tag_size()));
-    end(&mut record, results, 24);
-}
-
-fn forge(r: &mut Random, record: &mut Record) {
-    match r.below(14) {
-        0 => record.phase = r.below(4),
-        1 => record.part = r.below(9),
-        2 => record.agreement.algorithm = r.below(10),
-        3 => record.agreement.padding = r.below(6),
-        4 => record.agreement.m = r.one_of(&FAR),
-        5 => record.declared = r.below(700),
-        6 => record.total = r.below(700),
-        7 => record.total = 8_388_609 + r.below(2),
-        8 => record.declared = 8_388_609,
-        9 => record.keys.copy_within(..16, 16),
-        10 => r.fill(&mut record.chain),
-        11 => {
-            let place = r.below(16) as usize;
-            record.held[place] ^= 1 << r.below(8);
-        }
-        12 => {
-            (record.phase, record.part) = (1, 0);
-            record.total = 8_388_608 - 8 * r.below(48);
-            record.declared = 8_388_608 - r.below(2);
-        }
-        _ => {
-            (record.phase, record.part, record.held) = (2, 1 + r.below(7), [0; 16]);
-            record.total = record.part;
-        }
-    }
-}
-
 /// A slip and the settings whose keys it is read under.
 pub fn draw_slip(r: &mut Random) -> (Vec<u8>, Settings) {
     let mut s = Settings::draw(r);
@@ -430,12 +206,4 @@ pub fn draw_slip(r: &mut Random) -> (Vec<u8>, Settings) {
         _ => (),
     }
     (slip, s)
-}
-
-pub fn slip_case(r: &mut Random, results: &mut Results) {
-    let (slip, s) = draw_slip(r);
-    results.print("slip", &[], &[&slip, s.keys()]);
-    let a = slip::read(&slip, s.keys());
-    let words = [a.number, a.year, a.month, a.day, a.amount, a.calls, a.lot_at, a.lot_len];
-    results.put("read", &words, &[]);
 }

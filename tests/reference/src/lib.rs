@@ -2,8 +2,8 @@
 //! (approval draft), one-call making and checking, sessions by pieces, and lot slips.
 //! Written from the documents alone, to produce expected outputs and to compare with.
 //!
-//! Programs: `tag` (one tag), `slip` (one slip), `cases` (generated cases), `commands` (generated command lines), `answer`
-//! (answers to command lines), `random` (the output of the gate's `run_random`), `speed` (the baseline).
+//! Programs, for tests/make-runs: `commands` (generated command lines), `answer` (answers to command lines), `random` (the output of
+//! the gate's `run_random`).
 #![allow(clippy::manual_is_multiple_of)]
 
 pub mod call;

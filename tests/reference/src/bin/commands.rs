@@ -1,7 +1,7 @@
 //! commands call SEED COUNT: pseudo-random make and check lines for the bin `answer`, two for each of COUNT cases.
-//! commands slip SEED COUNT: pseudo-random slip lines, one for each of COUNT cases, the slips that `cases` draws.
+//! commands slip SEED COUNT: pseudo-random slip lines, one for each of COUNT cases, by `draw_slip`.
 //!
-//! A call draws the settings as `cases` does, a message of up to three blocks near their borders, and now and then a wrong
+//! A call draws its settings by `Settings::draw`, a message of up to three blocks near their borders, and now and then a wrong
 //! slice length, a far bit count, a room or a tag of another size. The tag offered is the right one, where there is one, in one
 //! case of three with one bit turned, which may be a spare one.
 
