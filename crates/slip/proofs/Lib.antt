@@ -4,5 +4,4 @@ pub mod Numbers
 pub mod OneCheck
 pub mod Enough
 pub mod Borders
-pub mod Example
 pub mod Unique
