@@ -3,17 +3,17 @@
 -- the finish gets 12). So a session that can be finished has an accepted one call (`finished-as-one-call`), and 9 is refused by both or by
 -- neither (`nine-by-both`). The other way round, what one call accepts a session accepts under every cut: `accepting`.
 -- Assumes nothing.
-use mathlib.Core.Path.{_≡_, refl, sym, ap, ap₂, _∙_}
-use mathlib.Core.Bool.{Bool, true, false, not, _&&_}
-use mathlib.Core.List.{List, [], _∷_, _++_}
-use Prim.Native.Nat.{ℕ, suc, _≤_, _<_}
+use mathlib.Core.Path.{_≡_, refl, sym, ap, _∙_}
+use mathlib.Core.Bool.{Bool, true, false, not}
+use mathlib.Core.List.{List, [], _∷_}
+use Prim.Native.Nat.{ℕ, _≤_}
 use native.Mathlib.Omega.{arith}
-use borrow.Author.Tests.{eq-eqb, eqb-true, eqb-false, ne-eqb, le-ltb, ltb-false}
+use borrow.Author.Tests.{eq-eqb, eqb-true, eqb-false, le-ltb}
 use lib.Dec.{eqb, ltb}
 use lib.ListN.{length}
 use Rattle.bits.specs.Choice.{pick, Fault, _given_, firstOf}
 use Rattle.bits.specs.Str.{Bits}
-use Rattle.bits.proofs.Faults.{Clear, passed, done, clear-first, clear-append, first-append-clear}
+use Rattle.bits.proofs.Faults.{Clear, clear-first, clear-append, first-append-clear}
 use Rattle.mac.specs.declared.Row.{Row}
 use Rattle.mac.specs.Padding.{methodAt, blockCount}
 use Rattle.mac.specs.Algorithm.{Algorithm, alg1, alg2, alg3, alg4, alg5, alg6, alg7, alg8, algorithmAt, row}
@@ -28,7 +28,6 @@ use Rattle.settings.specs.Faults.{settingsFaults}
 use Rattle.settings.specs.Answers.{numberOf, settingsOf}
 use Rattle.settings.specs.declared.Agreement.{Agreement}
 use Rattle.settings.specs.declared.Outcome.{Outcome}
-use Rattle.settings.specs.declared.Outcome.the-variants.{Refused}
 use Rattle.settings.proofs.Numbers.{Unrefused}
 use Rattle.settings.proofs.Sound.{settings-alone}
 use Rattle.message.specs.Faults.{lengthWrong, tooManyBits, tooFewBlocks, roomShort, messageFaults}
@@ -36,7 +35,7 @@ use Rattle.tag.specs.OneCall.{oneCallFaults, madeBy, makeOf}
 use Rattle.tag.proofs.Numbers.{madeOf, make-faults, sound-made, made-of}
 use Rattle.session.specs.declared.Session.{Session}
 use Rattle.session.specs.declared.Step.{Step}
-use Rattle.session.specs.Record.{standing, countsClosed}
+use Rattle.session.specs.Record.{standing}
 use Rattle.session.specs.Calls.{startFaults, freshOf, declaredAt, startOf, fallsShort, finishFaults, finishOf}
 use Rattle.session.proofs.Open.{Open, opens, ended}
 use Rattle.session.proofs.Stood.{stood}

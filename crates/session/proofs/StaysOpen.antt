@@ -10,11 +10,10 @@ use native.Mathlib.Omega.{arith}
 use borrow.Author.Tests.{eq-eqb, eqb-true, le-ltb, not-false}
 use lib.Dec.{eqb, ltb}
 use lib.ListN.{length}
-use Rattle.bits.specs.Choice.{pick, firstOf}
+use Rattle.bits.specs.Choice.{pick}
 use Rattle.bits.specs.Str.{Bits}
 use Rattle.bits.proofs.Faults.{Clear, passed, done, also, none, first-clear, clear-first}
 use Rattle.mac.specs.Algorithm.{Keys}
-use Rattle.mac.specs.Tag.{bitsOf}
 use Rattle.mac.specs.Session.{State, absorb}
 use Rattle.mac.proofs.TagBytes.{length-bitsOf}
 use Rattle.cipher.specs.Cipher.{Cipher}

@@ -14,7 +14,6 @@ use Rattle.keys.specs.Given.{keyBits}
 use Rattle.settings.specs.Faults.{settingsRefusal}
 use Rattle.settings.specs.Answers.{numberOf, reportedCalls, settingsOf, checkedOf, checkedNumber}
 use Rattle.settings.specs.declared.Outcome.{Outcome}
-use Rattle.settings.specs.declared.Checked.{Checked}
 use Rattle.settings.specs.declared.Checked.the-variants.{Sound, Unsound}
 use Rattle.settings.proofs.Settings.checked.Kinds as checked-k
 use Rattle.settings.proofs.Settings.checked.Reads as checked

@@ -11,7 +11,7 @@ use mathlib.Core.List.{List, _∷_, _++_}
 use Prim.Native.Nat.{ℕ, _+_, _*_, _≤_, _<_}
 use native.Mathlib.Omega.{arith}
 use lib.ListN.{length, take, drop, getD, length-take, length-drop, List·getD-eq-default}
-use lib.Seq.{drop-cons, drop-drop, take-all, getD-take, getD-drop}
+use lib.Seq.{drop-cons, take-all, getD-take, getD-drop}
 use lib.Dec.{ltb}
 use borrow.Author.Tests.{not-false, ltb-true, ltb-false}
 use Rattle.bits.specs.Choice.{firstOf}
@@ -27,7 +27,6 @@ use Rattle.mac.specs.Tag.{bitsOf, tagBytes}
 use Rattle.mac.proofs.OneBlock.{Apart}
 use Rattle.mac.proofs.Promised.{Promised, fullBytes, promised-at}
 use Rattle.keys.specs.Given.{keysOf}
-use Rattle.settings.specs.Answers.{settingsOf}
 use Rattle.settings.specs.declared.Settings.{Settings}
 use Rattle.tag.specs.OneCall.{tagAt}
 use Rattle.fields.specs.Format.{expiryRow, lotRow, amountRow, sealRow}

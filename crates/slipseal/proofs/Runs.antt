@@ -5,7 +5,7 @@
 -- leaves the room (`piece-back`, `finish-back`, `make-untouched`); an accepted start or piece leaves the session open (`start-open`,
 -- `piece-open`).
 -- Assumes nothing.
-use mathlib.Core.Path.{_≡_, refl, sym, ap, ap₂, _∙_, subst}
+use mathlib.Core.Path.{_≡_, refl, sym, ap, ap₂, _∙_}
 use mathlib.Core.Bool.{Bool, true, false}
 use mathlib.Core.List.{List, [], _∷_, _++_}
 use Prim.Native.Nat.{ℕ}

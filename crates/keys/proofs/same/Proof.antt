@@ -4,7 +4,6 @@ use mathlib.Core.Path.{sym, ap, _∙_}
 use mathlib.Core.Bool.{_&&_}
 use Rattle.bits.specs.Str.{bytesBits, sameB}
 use Rattle.mac.specs.declared.Row.{Row}
-use Rattle.mac.specs.Algorithm.{row}
 use Rattle.keys.specs.Given.{keyBits}
 use Rattle.keys.specs.Faults.{keysSame}
 use borrow.Author.Needs.{needs}
