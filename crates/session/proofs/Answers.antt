@@ -92,5 +92,5 @@ module _ (s : Session) where
   calls-listed h =
       let q = ap (blockCount (methodAt (agreed .padding)) (cipherAt 1 .n)) (length-zeros (s .total)) in
       sym (
-        promised-at 1 (algorithmAt (agreed .algorithm)) (methodAt (agreed .padding)) (keysIn s) .calls (agreed .m) (zeros (s .total)) (omega (arith, enough-held (settingsOf agreed) (s .total) h, q))
-        ∙ ap (λ (k : ℕ). k + row (algorithmAt (agreed .algorithm)) .further) q)
+      promised-at 1 (algorithmAt (agreed .algorithm)) (methodAt (agreed .padding)) (keysIn s) .calls (agreed .m) (zeros (s .total)) (omega (arith, enough-held (settingsOf agreed) (s .total) h, q))
+      ∙ ap (λ (k : ℕ). k + row (algorithmAt (agreed .algorithm)) .further) q)

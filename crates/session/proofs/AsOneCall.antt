@@ -178,9 +178,10 @@ module _ (A : Agreement) (s : List ℕ) (d : ℕ) (u : Unrefused (startOf A s d 
       go : (b : Bool) → eqb (A .padding) 3 ≡ b → (numberOf (end .0 .answer) ≡ 9 → numberOf (one .0) ≡ 9) × (numberOf (one .0) ≡ 9 → numberOf (end .0 .answer) ≡ 9)
       go true p =
           let three = eqb-true (A .padding) 3 p in
-          let e = after-stood A s d u cs runs in
-          (λ nine. absurd (never-nine A s d u (message A s d cs) (rw e at runs) three room (ap (λ (t : Session). numberOf (finishOf t room .0 .answer)) (sym e) ∙ nine)),
-          λ nine. absurd (one-never-nine A s d u (message A s d cs) (rw e at runs) three bytes l h room nine))
+          let e = after-stood A s d u cs runs in (
+            λ nine. absurd (never-nine A s d u (message A s d cs) (rw e at runs) three room (ap (λ (t : Session). numberOf (finishOf t room .0 .answer)) (sym e) ∙ nine)),
+            λ nine. absurd (one-never-nine A s d u (message A s d cs) (rw e at runs) three bytes l h room nine),
+          )
       go false p =
           let same = ap (λ (r : Outcome × List ℕ). numberOf (r .0)) (ends-as-one-call runs (λ e. absurd (eqb-false (A .padding) 3 p e))) in
           (λ nine. sym same ∙ nine, λ nine. same ∙ nine)

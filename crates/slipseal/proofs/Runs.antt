@@ -238,7 +238,7 @@ module _ (r : Ran) where
       let began = start-in (r .start-at) (r .given) (r .first) in
       let at-end : inward (r .came .0) ≡ handed (startOf agreed keyed d .session) (r .acts) = run-inward (r .between) ∙ ap (λ (t : session.Session). handed t (r .acts)) began in
       let made-so : Unrefused (finishOf (handed (startOf agreed keyed d .session) (r .acts)) room .0 .answer) =
-          ap (λ (t : session.Session). numberOf (finishOf t room .0 .answer)) (sym at-end) ∙ sym (finish-number (r .finish-at) (r .came) (r .last)) ∙ r .made in
+      ap (λ (t : session.Session). numberOf (finishOf t room .0 .answer)) (sym at-end) ∙ sym (finish-number (r .finish-at) (r .came) (r .last)) ∙ r .made in
       r .last .ensures
       ∙ ap (λ (t : session.Session). finishedBack (r .came .0) (finishOf t room)) at-end
       ∙ ap (finishedBack (r .came .0)) (joined-bits agreed keyed d (sym (start-number (r .start-at) (r .given) (r .first)) ∙ r .accepted) (r .acts) room made-so)
