@@ -2,8 +2,10 @@
 -- (`by-number`). All that is shown of an algorithm by its number goes by this one split.
 -- Assumes nothing.
 use mathlib.Core.Path.{_≡_, refl}
-use Prim.Native.Nat.{ℕ, zero, suc}
-use Rattle.mac.specs.Algorithm.{Algorithm, alg1, alg2, alg3, alg4, alg5, alg6, alg7, alg8, algorithmAt}
+use Prim.Native.Nat.{ℕ, zero, suc, _≤_}
+use native.Mathlib.Omega.{arith}
+use Rattle.mac.specs.declared.Row.{Row}
+use Rattle.mac.specs.Algorithm.{Algorithm, alg1, alg2, alg3, alg4, alg5, alg6, alg7, alg8, algorithmAt, row}
 
 module _ (P : ℕ → Algorithm → Type 0) (p1 : (a : ℕ) → P a alg1) (p2 : P 2 alg2) (p3 : P 3 alg3) (p4 : P 4 alg4) (p5 : P 5 alg5) (p6 : P 6 alg6) (p7 : P 7 alg7) (p8 : P 8 alg8) where
   pub by-number : (a : ℕ) → P a (algorithmAt a)
@@ -31,3 +33,14 @@ other-number =
     (λ n2 n3 n4 n5 n6 n7 n8. absurd (n6 refl))
     (λ n2 n3 n4 n5 n6 n7 n8. absurd (n7 refl))
     (λ n2 n3 n4 n5 n6 n7 n8. absurd (n8 refl))
+
+-- no algorithm asks for more than two blocks
+pub least-two : (A : Algorithm) → row A .least ≤ 2
+least-two alg1 = omega arith
+least-two alg2 = omega arith
+least-two alg3 = omega arith
+least-two alg4 = omega arith
+least-two alg5 = omega arith
+least-two alg6 = omega arith
+least-two alg7 = omega arith
+least-two alg8 = omega arith

@@ -50,5 +50,5 @@ module _ (κs : Lfts 1) (a : Dens κs start-k.ps) (first : Started κs a) (accep
       let ends-so = ap (λ (t : Step × List ℕ). numberOf (of-end t)) (last .ensures ∙ ap (λ (t : Session). finishOf t lent) at-end) in
       let makes-so = ap (λ (t : Outcome × List ℕ). numberOf (t .0)) (answer-at μs b y at ∙ ap (makeOf (a .0) (a .1 .0 .now) bytes l) room) in
       let both = nine-by-both (a .0) (a .1 .0 .now) (a .1 .1 .0) (subst (λ (t : Step). Unrefused (t .answer)) began accepted) acts bytes l
-          (subst (λ (t : Step). Holds bytes l (joined (gathered (t .session) acts))) began holds) lent (subst Running at-end runs) in
+      (subst (λ (t : Step). Holds bytes l (joined (gathered (t .session) acts))) began holds) lent (subst Running at-end runs) in
       (λ h. makes-so ∙ both .0 (sym ends-so ∙ h), λ h. ends-so ∙ both .1 (sym makes-so ∙ h))

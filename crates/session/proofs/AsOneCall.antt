@@ -16,8 +16,9 @@ use Rattle.bits.specs.Str.{Bits}
 use Rattle.bits.proofs.Faults.{Clear, clear-first, clear-append, first-append-clear}
 use Rattle.mac.specs.declared.Row.{Row}
 use Rattle.mac.specs.Padding.{methodAt, blockCount}
-use Rattle.mac.specs.Algorithm.{Algorithm, alg1, alg2, alg3, alg4, alg5, alg6, alg7, alg8, algorithmAt, row}
+use Rattle.mac.specs.Algorithm.{algorithmAt, row}
 use Rattle.mac.specs.Tag.{bitsOf, bytesFor}
+use Rattle.mac.proofs.Numbers.{least-two}
 use Rattle.mac.proofs.Padded.{needed, count-three}
 use Rattle.mac.proofs.TagBytes.{length-bitsOf}
 use Rattle.cipher.specs.Cipher.{Cipher}
@@ -102,16 +103,6 @@ module _ (A : Agreement) (s : List ℕ) (d : ℕ) (g : Clear (startFaults A s d)
       go false e = rw (e, sym same, e) refl
 
 -- ---- 9 under padding 3: never, for L and a block of the message are two
-
-least-two : (A : Algorithm) → row A .least ≤ 2
-least-two alg1 = omega arith
-least-two alg2 = omega arith
-least-two alg3 = omega arith
-least-two alg4 = omega arith
-least-two alg5 = omega arith
-least-two alg6 = omega arith
-least-two alg7 = omega arith
-least-two alg8 = omega arith
 
 never-few : (A : Agreement) (l : ℕ) → A .padding ≡ 3 → tooFewBlocks (settingsOf A) l ≡ false
 unfolding tooFewBlocks needed

@@ -26,13 +26,13 @@ module _ (A : Agreement) (s x y : List ℕ) (l : ℕ) (long : length x ≡ lengt
   unfolding makeOf madeBy callsAt tagAt
   make-same room =
       ap₂ (λ (c : ℕ) (w : Bits). let no = firstOf (oneCallFaults A s c l (roomShort (A .m) (length room))) in
-          pick {A = Outcome × List ℕ} (eqb no 0) (Made (listed A (keysOf s) w), tagged A (keysOf s) w ++ drop (bytesFor (A .m)) room) (Refused no, room)) long bits
+      pick {A = Outcome × List ℕ} (eqb no 0) (Made (listed A (keysOf s) w), tagged A (keysOf s) w ++ drop (bytesFor (A .m)) room) (Refused no, room)) long bits
 
   check-same : (offered : List ℕ) → checkOf A s x l offered ≡ checkOf A s y l offered
   unfolding checkOf checkedBy callsAt tagAt
   check-same offered =
       ap₂ (λ (c : ℕ) (w : Bits). let no = firstOf (oneCallFaults A s c l (tagLengthWrong (A .m) (length offered))) in
-          pick (eqb no 0) (pick (sameBytes offered (tagged A (keysOf s) w)) (Yes (listed A (keysOf s) w)) (No (listed A (keysOf s) w))) (Refused no)) long bits
+      pick (eqb no 0) (pick (sameBytes offered (tagged A (keysOf s) w)) (Yes (listed A (keysOf s) w)) (No (listed A (keysOf s) w))) (Refused no)) long bits
 
 -- of two calls that are alike in all but the spare bits
 module _ (κs : Lfts 3) (a : Dens κs make-k.ps) (x : Making κs a) (λs : Lfts 3) (b : Dens λs make-k.ps) (y : Making λs b)

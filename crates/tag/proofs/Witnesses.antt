@@ -21,6 +21,7 @@ use Rattle.mac.specs.declared.Row.{Row}
 use Rattle.mac.specs.Padding.{Method, method1, method2, method3, method4, methodAt, blockCount, prefix, suffix, gap, oneGap, complete}
 use Rattle.mac.specs.Algorithm.{Algorithm, alg1, alg2, alg3, alg4, alg5, alg6, alg7, alg8, algorithmAt, row}
 use Rattle.mac.specs.Tag.{bitsOf, bytesFor}
+use Rattle.mac.proofs.Numbers.{least-two}
 use Rattle.mac.proofs.OneBlock.{Apart}
 use Rattle.keys.specs.Given.{keysOf}
 use Rattle.keys.specs.Faults.{keyBytes, keyBytesWrong, keysSame, keysWeak}
@@ -44,56 +45,29 @@ someKeys a = keysFor (row (algorithmAt a) .two)
 
 -- ---- no rule refuses them
 
-keys-long : (A : Algorithm) → not (eqb (length (keysFor (row A .two))) (pick (row A .two) 32 16)) ≡ false
-unfolding keysFor pick
-keys-long alg1 = refl
-keys-long alg2 = refl
-keys-long alg3 = refl
-keys-long alg4 = refl
-keys-long alg5 = refl
-keys-long alg6 = refl
-keys-long alg7 = refl
-keys-long alg8 = refl
+record Good (A : Algorithm) : Type 0 where
+  long : not (eqb (length (keysFor (row A .two))) (pick (row A .two) 32 16)) ≡ false
+  differ : (row A .differ && sameB (keysOf (keysFor (row A .two)) .k) (keysOf (keysFor (row A .two)) .k′)) || (row A .third && sameB (keysOf (keysFor (row A .two)) .k) (keysOf (keysFor (row A .two)) .k″)) ≡ false
+  strong : row A .third && sameB (keysOf (keysFor (row A .two)) .k′) (keysOf (keysFor (row A .two)) .k″) ≡ false
 
-keys-differ : (A : Algorithm) → (row A .differ && sameB (keysOf (keysFor (row A .two)) .k) (keysOf (keysFor (row A .two)) .k′)) || (row A .third && sameB (keysOf (keysFor (row A .two)) .k) (keysOf (keysFor (row A .two)) .k″)) ≡ false
+good : (A : Algorithm) → Good A
 unfolding keysFor keysOf front bytesBits flatMap bitsN digit sameB halvesFlipped everySecond pick
-keys-differ alg1 = refl
-keys-differ alg2 = refl
-keys-differ alg3 = refl
-keys-differ alg4 = refl
-keys-differ alg5 = refl
-keys-differ alg6 = refl
-keys-differ alg7 = refl
-keys-differ alg8 = refl
+good alg1 = record { long = refl; differ = refl; strong = refl }
+good alg2 = record { long = refl; differ = refl; strong = refl }
+good alg3 = record { long = refl; differ = refl; strong = refl }
+good alg4 = record { long = refl; differ = refl; strong = refl }
+good alg5 = record { long = refl; differ = refl; strong = refl }
+good alg6 = record { long = refl; differ = refl; strong = refl }
+good alg7 = record { long = refl; differ = refl; strong = refl }
+good alg8 = record { long = refl; differ = refl; strong = refl }
 
-keys-strong : (A : Algorithm) → row A .third && sameB (keysOf (keysFor (row A .two)) .k′) (keysOf (keysFor (row A .two)) .k″) ≡ false
-unfolding keysFor keysOf front bytesBits flatMap bitsN digit sameB halvesFlipped everySecond pick
-keys-strong alg1 = refl
-keys-strong alg2 = refl
-keys-strong alg3 = refl
-keys-strong alg4 = refl
-keys-strong alg5 = refl
-keys-strong alg6 = refl
-keys-strong alg7 = refl
-keys-strong alg8 = refl
-
--- 256 bits are two blocks at least, and no algorithm asks for more
+-- 256 bits are two blocks at least, and no algorithm asks for more (`least-two`)
 two-blocks : (M : Method) → 2 ≤ blockCount M n 256
 unfolding blockCount prefix suffix gap oneGap complete zeros cipherAt pick
 two-blocks method1 = omega arith
 two-blocks method2 = omega arith
 two-blocks method3 = omega arith
 two-blocks method4 = omega arith
-
-at-most-two : (A : Algorithm) → row A .least ≤ 2
-at-most-two alg1 = omega arith
-at-most-two alg2 = omega arith
-at-most-two alg3 = omega arith
-at-most-two alg4 = omega arith
-at-most-two alg5 = omega arith
-at-most-two alg6 = omega arith
-at-most-two alg7 = omega arith
-at-most-two alg8 = omega arith
 
 pub full-accepted : (a p : ℕ) → algorithmWrong a ≡ false → paddingWrong a p ≡ false → sizeWrong a n ≡ false
     → (x room : List ℕ) → length x ≡ 32 → 16 ≤ length room → makeFault (fullTags a p) (someKeys a) x 256 room ≡ 0
@@ -104,12 +78,12 @@ full-accepted a p e1 e2 e3 x room long wide =
     (passed e1
     (passed e2
     (passed e3
-    (passed (keys-long A)
-    (passed (keys-differ A)
-    (passed (keys-strong A)
+    (passed (good A .long)
+    (passed (good A .differ)
+    (passed (good A .strong)
     (passed (ap not (eq-eqb (length x) 32 long))
     (passed refl
-    (passed (le-ltb (blockCount (methodAt p) n 256) (row A .least) (omega (arith, two-blocks (methodAt p), at-most-two A)))
+    (passed (le-ltb (blockCount (methodAt p) n 256) (row A .least) (omega (arith, two-blocks (methodAt p), least-two A)))
     (passed (le-ltb (length room) 16 wide) done))))))))))
 
 -- ---- two messages that differ in their first bit
