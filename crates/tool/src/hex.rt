@@ -1,5 +1,4 @@
-// Bytes as hex digits, both ways: the keys and the vectors are read so, and tags are printed so.
-use crate::words;
+// Bytes as hex digits, both ways: the keys are typed so, and tags are printed so.
 
 // The value of a hex digit of either case, or 16.
 pub(crate) fn digit(c: u8) -> u8 {
@@ -32,17 +31,17 @@ pub(crate) fn byte_of(high: u8, low: u8) -> u8 {
 // The hex digit of the lower half of a byte.
 fn glyph(byte: u8) -> u8 {
     let value = byte % 16;
-    if value < 10 {
-        return value + 48;
-    }
-    value + 55
+    value + 48 + value / 10 * 7
 }
 
-pub(crate) fn print_bytes(s: &[u8]) {
+// The digits of a tag of eight bytes.
+pub(crate) fn digits(tag: [u8; 8]) -> [u8; 16] {
+    let mut digits = [0u8; 16];
     let mut i = 0;
-    while i < s.len() {
-        let digits = [glyph(s[i] / 16), glyph(s[i])];
-        words::print(&digits);
+    while i < 8 {
+        digits[2 * i] = glyph(tag[i] / 16);
+        digits[2 * i + 1] = glyph(tag[i]);
         i += 1;
     }
+    digits
 }

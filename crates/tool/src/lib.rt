@@ -38,7 +38,7 @@ pub fn run() {
         words::print_failure(b"the file cannot be opened", wrong);
         return;
     }
-    run_on(&name[..n]);
+    answer(libc::STDIN_FILENO, &name[..n]);
 }
 
 fn usage() {
@@ -50,17 +50,18 @@ fn usage() {
     );
 }
 
-fn run_on(name: &[u8]) {
+// What the program says where its argument is this name, and the keys are typed into this open file.
+pub fn answer(typed: i32, name: &[u8]) {
     if check::same(name, b"vectors") {
         vectors::run();
         return;
     }
-    check_file(name);
+    check_file(typed, name);
 }
 
-fn check_file(name: &[u8]) {
+fn check_file(typed: i32, name: &[u8]) {
     let mut room = [0u8; 33];
-    match typed_keys::read(&mut room) {
+    match typed_keys::read(typed, &mut room) {
         typed_keys::Typed::Bytes(count) => slip_file::check(name, first(&room, count)),
         typed_keys::Typed::Half(_, _) => print(
             b"error: the keys have an odd number of hex digits\n",

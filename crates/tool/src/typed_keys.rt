@@ -1,4 +1,4 @@
-// The keys, typed on standard input as hex digits of either case, two to a byte, with blanks, tabs and line ends anywhere between
+// The keys, typed as hex digits of either case, two to a byte, with blanks, tabs and line ends anywhere between
 // them. Input of any length and any bytes is answered: it is read through a small buffer to its end, or to its first strange
 // character, which settles the answer.
 use crate::hex;
@@ -11,7 +11,7 @@ pub(crate) enum Typed {
     Half(usize, u8),
     // A character that is not allowed.
     Strange,
-    // Standard input cannot be read, for this reason of the system's.
+    // The file cannot be read, for this reason of the system's.
     Unread(i32),
 }
 
@@ -23,13 +23,13 @@ struct Turn {
 
 // Puts the typed bytes into the room, as many as fit. A room of 33 bytes is enough: keys have 16 or 32 bytes, and a reader that is
 // given 33 answers as it does for any longer keys.
-pub(crate) fn read(room: &mut [u8]) -> Typed {
+pub(crate) fn read(file: i32, room: &mut [u8]) -> Typed {
     let mut typed = Typed::Bytes(0);
     let mut more = true;
     // A proved loop has to end; no input lasts for so many reads.
     let mut turns = u64::MAX;
     while 0 < turns && more {
-        let turn = read_some(typed, room);
+        let turn = read_some(file, typed, room);
         let next = turn.typed;
         typed = next;
         more = turn.more;
@@ -38,9 +38,9 @@ pub(crate) fn read(room: &mut [u8]) -> Typed {
     typed
 }
 
-fn read_some(typed: Typed, room: &mut [u8]) -> Turn {
+fn read_some(file: i32, typed: Typed, room: &mut [u8]) -> Turn {
     let mut chunk = [0u8; 256];
-    let got = libc::read(libc::STDIN_FILENO, &mut chunk);
+    let got = libc::read(file, &mut chunk);
     if got < 0 {
         return Turn {
             typed: Typed::Unread(os::errno()),

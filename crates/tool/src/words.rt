@@ -9,17 +9,13 @@ pub(crate) fn print_number(n: usize) {
     io::print_decimal(libc::STDOUT_FILENO, n as u64);
 }
 
-// A number below 100 in two digits.
-pub(crate) fn print_two_digits(n: usize) {
-    if n < 10 {
-        print(b"0");
-    }
+pub(crate) fn print_both(text: &[u8], n: usize) {
+    print(text);
     print_number(n);
 }
 
 pub(crate) fn print_refusal(number: usize) {
-    print(b"refused ");
-    print_number(number);
+    print_both(b"refused ", number);
     print(b": ");
     print_meaning(number);
     print(b"\n");
@@ -27,6 +23,18 @@ pub(crate) fn print_refusal(number: usize) {
 
 // A slip gets 1 to 6, 10 and 20 to 30; 7 to 9, 11 and 12 are other calls' answers.
 fn print_meaning(number: usize) {
+    if number < 7 {
+        print_meaning_of_settings(number);
+        return;
+    }
+    if number < 20 {
+        print_meaning_of_message(number);
+        return;
+    }
+    print_meaning_of_slip(number);
+}
+
+fn print_meaning_of_settings(number: usize) {
     match number {
         1 => print(b"the algorithm is not one of 1 to 8"),
         2 => print(b"the padding does not belong to the algorithm"),
@@ -34,20 +42,36 @@ fn print_meaning(number: usize) {
         4 => print(b"the keys have the wrong length for the algorithm"),
         5 => print(b"the first key is the same as another and must differ"),
         6 => print(b"the second key is the same as the third and must differ"),
+        _ => print_no_meaning(),
+    }
+}
+
+fn print_meaning_of_message(number: usize) {
+    match number {
         7 => print(b"the message has the wrong number of bytes for its bits"),
         8 => print(b"the message has more than 8388608 bits"),
         9 => print(b"the message is too short for the algorithm"),
         10 => print(b"the tag or the room for it has the wrong number of bytes"),
         11 => print(b"the session is closed or its last piece ended within a byte"),
         12 => print(b"the message is not as long as was declared"),
+        _ => print_no_meaning(),
+    }
+}
+
+fn print_meaning_of_slip(number: usize) {
+    match number {
         20 => print(b"the slip is cut short"),
         21 => print(b"a field is missing or out of order"),
         22 => print(b"a field's length or value is not allowed"),
         23 => print(b"the expiry is not a real date from 2000 to 2099"),
         24 => print(b"there are bytes after the seal"),
         30 => print(b"the seal is wrong"),
-        _ => print(b"this number has no meaning here"),
+        _ => print_no_meaning(),
     }
+}
+
+fn print_no_meaning() {
+    print(b"this number has no meaning here");
 }
 
 // What could not be done, and the system's reason.
@@ -80,8 +104,7 @@ fn print_reason(reason: i32) {
         print(b"its name is too long");
         return;
     }
-    print(b"the system's error ");
-    print_number(size_of_error(reason));
+    print_both(b"the system's error ", size_of_error(reason));
 }
 
 // The system's errors are numbers from 1.

@@ -1,14 +1,14 @@
 //! answer: reads commands from standard input, one a line, and prints each with this reference's answer: LINE -> ANSWER.
 //!
 //!     make A P M KEYS MESSAGE BITS ROOM    check A P M KEYS MESSAGE BITS TAG
-//!     start A P M KEYS DECLARED    piece BYTES BITS    finish ROOM    same
+//!     start A P M KEYS DECLARED    piece BYTES BITS    zeros BYTES PIECES    finish ROOM    same
 //!     forge PHASE PART A P M DECLARED TOTAL K K1 CHAIN HELD
-//!     halves A P M KEYS MESSAGE TAG CALLS    slip KEYS SLIP    changed KEYS SLIP    prefixes KEYS SLIP
+//!     halves A P M KEYS MESSAGE CALLS TAG    slip KEYS SLIP    changed KEYS SLIP    prefixes KEYS SLIP
 //!
 //! Words have one blank between them. Numbers are decimal, below 2^64. Bytes are hex digits, at most 4096 bytes, and - is no
 //! bytes. ROOM is a number up to 32: the room's bytes are EE before the call. PHASE is 0 closed, 1 edge, 2 part (with PART).
 //! Session commands act on one record, closed and zero at first, and print its phase after the answer. `same` tells whether
-//! the last of them left the record as it was. A line that begins with # and an empty line are printed alone.
+//! the last of them left the record as it was, `zeros` feeds so many pieces of so many zero bytes, up to 65536. A line that begins with # and an empty line are printed alone.
 
 use reference::session::{self, Record};
 use reference::slip::{self, Tally};
@@ -130,7 +130,7 @@ impl State {
                     (number, _) => format!("refused {number}"),
                 })
             }
-            ["halves", a, p, m, keys, message, tag, calls] => {
+            ["halves", a, p, m, keys, message, calls, tag] => {
                 let agreement = agreed(a, p, m)?;
                 Some(halves(agreement, &bytes(keys)?, &bytes(message)?, &bytes(tag)?, number(calls)?))
             }
@@ -143,6 +143,15 @@ impl State {
             }
             ["piece", part, bits] => {
                 let (next, answer) = session::piece(self.record, &bytes(part)?, number(bits)?);
+                self.step(next, accepted(answer))
+            }
+            ["zeros", size, pieces] => {
+                let size = number(size).filter(|size| *size <= 65536)?;
+                let (bytes, mut next) = (vec![0; size as usize], self.record);
+                let mut answer = Answer::default();
+                for _ in 0..number(pieces).filter(|pieces| *pieces > 0)? {
+                    (next, answer) = session::piece(next, &bytes, 8 * size);
+                }
                 self.step(next, accepted(answer))
             }
             ["finish", size] => {

@@ -7,10 +7,10 @@ use Rattle.tool.proofs.typed_keys.read.Statement.{statement}
 use Rattle.tool.proofs.typed_keys.read.Tie as tie
 
 abbrev Inv-loop : tie.InvT-loop
-Inv-loop room₀ typed₀ more₀ turns₀ room typed more turns = length room ≡ length room₀
+Inv-loop file room₀ typed₀ more₀ turns₀ room typed more turns = length room ≡ length room₀
 
 abbrev μ-loop : tie.MeasureT-loop
-μ-loop room₀ typed₀ more₀ turns₀ room typed more turns = turns
+μ-loop file room₀ typed₀ more₀ turns₀ room typed more turns = turns
 
 pub read-spec : {M : Type 1} → statement M
 read-spec =

@@ -1,4 +1,0 @@
-// Pseudo-random calls, the first part.
-fn main() {
-    cases::run();
-}

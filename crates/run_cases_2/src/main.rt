@@ -1,4 +1,0 @@
-// Pseudo-random calls, the second part.
-fn main() {
-    cases::run();
-}

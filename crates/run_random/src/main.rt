@@ -1,4 +1,0 @@
-// Pseudo-random calls, sessions and slips.
-fn main() {
-    random::run();
-}

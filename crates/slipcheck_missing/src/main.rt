@@ -1,4 +1,0 @@
-// slipcheck on a file that is not there.
-fn main() {
-    tool::run();
-}

@@ -1,4 +1,0 @@
-// slipcheck with a digit of the key left out.
-fn main() {
-    tool::run();
-}

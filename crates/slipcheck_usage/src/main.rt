@@ -1,4 +1,0 @@
-// slipcheck with no argument.
-fn main() {
-    tool::run();
-}

@@ -1,0 +1,111 @@
+// Commands in stored texts, one a line, each printed with its answer: LINE -> ANSWER. The texts are the files that the arguments
+// name. Their stored answers come from the standard or from the reference, never from this program (tests/make-runs).
+//
+//     make A P M KEYS MESSAGE BITS ROOM   made CALLS calls and the room's bytes; or refused N, and whether the room is untouched
+//     check A P M KEYS MESSAGE BITS TAG   yes CALLS calls, no CALLS calls, or refused N
+//     start A P M KEYS DECLARED           accepted or refused N
+//     piece BYTES BITS                    accepted or refused N
+//     zeros BYTES PIECES                  so many pieces of so many zero bytes, up to 65536: the last one's answer
+//     finish ROOM                         as make
+//     forge PHASE PART A P M DECLARED TOTAL K K1 CHAIN HELD   forged: the session is now this record
+//     same                                whether the command on the session before this one left every field of it: same or changed
+//     halves A P M KEYS MESSAGE CALLS TAG   G of N cuts: of the N ways to cut the message in two at a byte, G end with the tag and the calls
+//     slip KEYS SLIP                      accepted DATE lot LOT at PLACE length BYTES amount AMOUNT calls CALLS, LOT being the part that
+//                                         comes back; or refused N, and "with values" where another field or the part is not empty
+//     changed KEYS SLIP                   the slip with each byte changed to every other value: how many are accepted, and how many get
+//                                         which refusal (31: one with values)
+//     prefixes KEYS SLIP                  the same for every beginning that is shorter than the slip
+//
+// Numbers are decimal and below 2^64. Bytes are hex digits, at most 4096 bytes, and - is no bytes. ROOM is a number of bytes up to
+// 32, each EE before the call. The commands from start to same act on one session, closed and zero at the text's first line, and
+// print its phase after their answer; PHASE is 0 closed, 1 at a byte edge, 2 after a part byte of PART bits. A line whose first word
+// is # is printed alone. No other line is looked for: tests/make-runs stores none that the reference cannot read.
+mod calls;
+mod halves;
+mod sessions;
+mod slips;
+mod words;
+
+use words::print;
+
+// The commands, in the order of their numbers; 0 is a remark.
+const NAMES: [u8; 77] =
+    *b"# make check halves slip changed prefixes start piece zeros finish forge same";
+
+pub(crate) const CHECK: usize = 2;
+
+pub(crate) const HALVES: usize = 3;
+
+pub(crate) const SLIP: usize = 4;
+
+pub(crate) const CHANGED: usize = 5;
+
+pub(crate) const START: usize = 7;
+
+pub(crate) const PIECE: usize = 8;
+
+pub(crate) const ZEROS: usize = 9;
+
+pub(crate) const FINISH: usize = 10;
+
+pub(crate) const SAME: usize = 12;
+
+fn main() {
+    let count = os::arg_count();
+    let mut i = 1;
+    while i < count {
+        text(i);
+        i += 1;
+    }
+}
+
+// The text that an argument names.
+fn text(i: usize) {
+    let mut name = io::buffer();
+    let n = os::arg(i, &mut name);
+    let file = os::open_read(&name[..n]);
+    let mut text = io::large_buffer();
+    let size = io::read_full(file, &mut text);
+    libc::close(file);
+    lines(&text[..size]);
+}
+
+fn lines(text: &[u8]) {
+    let mut state = sessions::closed();
+    let mut at = 0;
+    while at < text.len() {
+        let end = words::find(text, at, b'\n');
+        let next = line(&text[at..end], state);
+        state = next;
+        if end == text.len() {
+            return;
+        }
+        at = end + 1;
+    }
+}
+
+fn line(line: &[u8], state: sessions::State) -> sessions::State {
+    print(line);
+    let names = NAMES;
+    let kind = words::place(&names, words::word(line, 0));
+    if kind == 0 {
+        print(b"\n");
+        return state;
+    }
+    print(b" -> ");
+    let next = answered(kind, line, state);
+    print(b"\n");
+    next
+}
+
+fn answered(kind: usize, line: &[u8], state: sessions::State) -> sessions::State {
+    if kind < SLIP {
+        calls::command(kind, line);
+        return state;
+    }
+    if kind < START {
+        slips::command(kind, line);
+        return state;
+    }
+    sessions::command(kind, line, state)
+}

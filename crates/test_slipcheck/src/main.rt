@@ -1,0 +1,27 @@
+// What slipcheck answers, by the functions that it calls itself: with no argument; then on the stored keys and slips, each answer after
+// a line with the names of both files.
+fn main() {
+    tool::run();
+    answer(b"key", b"slip");
+    answer(b"key_with_blanks", b"two_keys");
+    answer(b"key", b"turned");
+    answer(b"key_empty", b"slip");
+    answer(b"key_odd", b"slip");
+    answer(b"key_strange", b"slip");
+    answer(b"key", b"megabyte");
+    answer(b"key", b"nothing");
+    answer(b"key", b".");
+    answer(b".", b"slip");
+    answer(b"key_empty", b"vectors");
+}
+
+fn answer(keys: &[u8], name: &[u8]) {
+    io::write_all(libc::STDOUT_FILENO, b"== ");
+    io::write_all(libc::STDOUT_FILENO, keys);
+    io::write_all(libc::STDOUT_FILENO, b" ");
+    io::write_all(libc::STDOUT_FILENO, name);
+    io::write_all(libc::STDOUT_FILENO, b"\n");
+    let file = os::open_read(keys);
+    tool::answer(file, name);
+    libc::close(file);
+}
