@@ -22,9 +22,16 @@ pub fn known(r: &mut Random, run: &mut Run) {
     let made = library::make(PLAIN, &keys, &zeros[..MOST], LIMIT, &mut tag);
     run.same(&made, &Answer { number: 0, yes: 1, calls: 65_536 }, || "8,388,608 zeros".to_string());
     run.same(&hex(&tag), &"52E7B8DB5C984966E56E4943745D6392".to_string(), || "8,388,608 zeros".to_string());
+    // One bit more: 8, and 7 before it where a byte is missing; both before 10, for a room or a tag of 15 bytes.
     for (size, number) in [(MOST + 1, 8), (MOST, 7)] {
-        let answer = library::make(PLAIN, &keys, &zeros[..size], LIMIT + 1, &mut tag);
-        run.same(&answer, &Answer::refused(number), || format!("one bit more in {size} bytes"));
+        for count in [16, 15] {
+            let mut room = [0; 16];
+            let made = library::make(PLAIN, &keys, &zeros[..size], LIMIT + 1, &mut room[..count]);
+            let checked = library::check(PLAIN, &keys, &zeros[..size], LIMIT + 1, &tag[..count]);
+            let refused = Answer::refused(number);
+            let what = || format!("one bit more in {size} bytes, {count} bytes of a tag");
+            run.same(&(made, checked, room), &(refused, refused, [0; 16]), what);
+        }
     }
     let (mut record, _) = run.start(PLAIN, &keys, 0);
     for _ in 0..16 {
