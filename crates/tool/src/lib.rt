@@ -10,13 +10,13 @@
 //     4096   the file's name
 //     4096   its copy in os::open_read
 //     4096   io::write_all, where the system takes only a part of what is written
-//      904   the vectors: their rows 792, keys 64, text 32 and two tags 16
+//      880   the vectors: their rows 792, keys 32, text 32, a tag 8 and its digits 16
 //      256   a chunk of the typed keys
 //       33   the key bytes
 //       76   the slip
-//       22   a number's digits 20, a byte's digits 2
+//       20   a number's digits
 //    -----
-//    13579   bytes in all
+//    13553   bytes in all
 mod hex;
 mod slip_file;
 mod typed_keys;

@@ -3,7 +3,7 @@
 //! Written from the documents alone, to produce expected outputs and to compare with.
 //!
 //! Programs, for tests/make-runs: `commands` (generated command lines), `answer` (answers to command lines), `random` (the output of
-//! the gate's `run_random`).
+//! the gate's `test_random`).
 #![allow(clippy::manual_is_multiple_of)]
 
 pub mod call;

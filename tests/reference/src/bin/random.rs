@@ -1,4 +1,4 @@
-//! random: the lines that the gate's program `run_random` must print. Each case is made of 192 drawn bytes b0 to b191, and is one
+//! random: the lines that the gate's program `test_random` must print. Each case is made of 192 drawn bytes b0 to b191, and is one
 //! line of numbers and hex digits, each with a blank after it: 2000 calls, 1500 sessions, 1500 slips.
 //!
 //! # The bytes
