@@ -104,15 +104,23 @@ fn run_row(row: &[u8]) -> bool {
     right
 }
 
-// The tag of a data string that is made and found right, else zeros.
 fn tag_of(agreed: settings::Agreement, data: usize) -> [u8; 8] {
-    let all = keys_of(agreed.algorithm);
-    let keys = first(&all, keys::bytes_of(agreed.algorithm));
-    let whole = TEXT;
-    let text = first(&whole, size_of(data));
+    let keys = keys_of(agreed.algorithm);
+    let text = TEXT;
+    let size = size_of(data);
+    made(
+        agreed,
+        first(&keys, keys::bytes_of(agreed.algorithm)),
+        first(&text, size),
+        8 * size,
+    )
+}
+
+// The tag of a text that is made and found right, else zeros.
+fn made(agreed: settings::Agreement, keys: &[u8], text: &[u8], bits: usize) -> [u8; 8] {
     let mut made = [0u8; 8];
-    tag::make(agreed, keys, text, 8 * size_of(data), &mut made);
-    if let settings::Outcome::Yes(_) = tag::check(agreed, keys, text, 8 * size_of(data), &made) {
+    tag::make(agreed, keys, text, bits, &mut made);
+    if let settings::Outcome::Yes(_) = tag::check(agreed, keys, text, bits, &made) {
         return made;
     }
     [0u8; 8]
