@@ -6,7 +6,7 @@ ghost use mathlib.Core.List.{_++_};
 ghost use Prim.Native.Nat.{_-_, _≤_, _<_};
 ghost use lib.ListN.{length, take, drop, replicate};
 ghost use Rattle.bits.specs.Str.{bitsN, bytesBits, xorB, sameB, rotl, rotr, leftmost, rightmost, filled, double, everySecond};
-ghost use Rattle.block.specs.Block.{front, lastBlock};
+ghost use Rattle.block.specs.Block.{front};
 
 // Two blocks, bit by bit.
 pub fn xor(a: [u8; 16], b: [u8; 16]) -> [u8; 16]
@@ -169,17 +169,6 @@ pub fn front(s: &[u8]) -> [u8; 16]
         return copy(s, s.len());
     }
     copy(s, 16)
-}
-
-// The last block of a message whose tail has so many bits: filled with zeros, or, where it is marked, with a one and zeros.
-pub fn last_block(tail: &[u8], bits: usize, marked: bool) -> [u8; 16]
-    ensures { λ r. ⌜ bytesBits r ≡ lastBlock (now (tail .entry)) bits marked ⌝ }
-{
-    let t = front(tail);
-    if marked {
-        return join(t, bits, [0x80, 0, 0, 0, 0, 0, 0, 0, 0, 0, 0, 0, 0, 0, 0, 0]);
-    }
-    join(t, bits, [0u8; 16])
 }
 
 // Whether two parts hold the same bytes, and equally many.
