@@ -171,21 +171,20 @@ pub fn front(s: &[u8]) -> [u8; 16]
     copy(s, 16)
 }
 
-// Whether two parts hold the same bytes, and equally many.
+// Whether two parts hold the same bytes, and equally many. Where they are equally long every byte is looked at.
 pub fn equal_bytes(a: &[u8], b: &[u8]) -> bool
     ensures { λ r. ⌜ r ≡ sameB (bytesBits (now (a .entry))) (bytesBits (now (b .entry))) ⌝ }
 {
     if a.len() != b.len() {
         return false;
     }
+    let mut differences: u8 = 0;
     let mut i: usize = 0;
     while i < a.len() {
-        if a[i] != b[i] {
-            return false;
-        }
+        differences = differences | (a[i] ^ b[i]);
         i += 1;
     }
-    true
+    differences == 0
 }
 
 // Whether two blocks are the same.
