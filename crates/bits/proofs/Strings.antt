@@ -3,7 +3,7 @@
 use mathlib.Core.Path.{_≡_, refl, sym, ap, ap₂, _∙_}
 use mathlib.Core.Bool.{Bool, true, false, _&&_, not, xor, Bool·beq, false≢true}
 use mathlib.Core.List.{[], _∷_, _++_, zipWith, append-assoc, append-nil}
-use Prim.Native.Nat.{ℕ, zero, suc, _+_, _-_, _/_, _%_, _^_, _≤_, _<_}
+use Prim.Native.Nat.{ℕ, zero, suc, _+_, _-_, _/_, _%_, _^_, _≤_, _<_, min}
 use native.Mathlib.Nat.{mod-lt, zero-div}
 use native.Mathlib.Omega.{arith}
 use lib.Bits.{bitXor, xor-shr, xor-mod}
@@ -67,11 +67,14 @@ xorB-assoc (b ∷ u) [] w = refl
 xorB-assoc (b ∷ u) (c ∷ v) [] = refl
 xorB-assoc (b ∷ u) (c ∷ v) (d ∷ w) = ap₂ (λ (e : Bool) (s : Bits). e ∷ s) (xor-assoc b c d) (xorB-assoc u v w)
 
-pub length-xorB : (u v : Bits) → length u ≡ length v → length (xorB u v) ≡ length u
+pub length-xorB-min : (u v : Bits) → length (xorB u v) ≡ min (length u) (length v)
 unfolding xorB zipWith
-length-xorB [] v h = refl
-length-xorB (b ∷ u) [] h = absurd (omega arith)
-length-xorB (b ∷ u) (c ∷ v) h = ap suc (length-xorB u v (omega arith))
+length-xorB-min [] v = omega arith
+length-xorB-min (b ∷ u) [] = omega arith
+length-xorB-min (b ∷ u) (c ∷ v) = omega (arith, length-xorB-min u v)
+
+pub length-xorB : (u v : Bits) → length u ≡ length v → length (xorB u v) ≡ length u
+length-xorB u v h = omega (arith, length-xorB-min u v)
 
 -- four strings by xor, in another order
 pub xorB-cross : (a b c d : Bits) → xorB (xorB a b) (xorB c d) ≡ xorB (xorB a c) (xorB b d)
@@ -207,6 +210,11 @@ xorB-zeros (b ∷ w) = ap₂ (λ (c : Bool) (v : Bits). c ∷ v) (xor-false b) (
 pub length-filled : (n : ℕ) (w : Bits) → length w ≤ n → length (filled n w) ≡ n
 unfolding filled
 length-filled n w h = omega (arith, length-append w (zeros (n - length w)), length-zeros (n - length w))
+
+-- where there are n bits already, nothing is filled up
+pub filled-all : (n : ℕ) (w : Bits) → length w ≡ n → filled n w ≡ w
+unfolding filled zeros
+filled-all n w h = let none : n - length w ≡ 0 = omega arith in ap (λ (k : ℕ). w ++ zeros k) none ∙ append-nil w
 
 -- two strings, each filled with zeros where the other stands
 pub xorB-beside : (x y : Bits) (m n : ℕ) → length x ≡ m → length y ≡ n → xorB (x ++ zeros n) (zeros m ++ y) ≡ x ++ y

@@ -13,7 +13,7 @@ use Rattle.bits.proofs.Strings.{length-xorB}
 use Rattle.sm4.specs.Cipher.{flat, four, encrypted, decrypted}
 use Rattle.sm4.proofs.Laws.{long-words}
 use Rattle.sm4.proofs.Inverse.{length-flat, length-enc, length-dec, length-encrypted, length-decrypted, decrypted-encrypted, encrypted-decrypted}
-use Rattle.cipher.specs.Cipher.{Cipher, Lawful}
+use Rattle.cipher.specs.Cipher.{Lawful}
 use Rattle.cipher.specs.Ciphers.{sm4, cipherAt, roundKeysAt, encAt, decAt, wordsBits}
 use Rattle.cipher.proofs.Widths.{Width, take-filled, length-first}
 
