@@ -1,24 +1,32 @@
 // Sixteen bytes by value, of which a block of n bits takes the first n. One function moves bits, `window`; joining, truncation, turns
 // and doubling are calls of it, but where whole bytes are joined, none is moved by bits. Every function answers every argument but
-// `put`, the inner parts `copy` and `join_bytes`, and five that take a width n, which sixteen bytes must hold.
+// `xor_part`, `after` and `put`, whose bytes must be there or have room, and five that take a width n, which sixteen bytes must hold.
 ghost use mathlib.Core.Path.{_≡_};
 ghost use mathlib.Core.List.{_++_};
-ghost use Prim.Native.Nat.{_-_, _≤_, _<_};
-ghost use lib.ListN.{length, take, drop, replicate};
+ghost use Prim.Native.Nat.{_+_, _-_, _≤_, _<_};
+ghost use lib.ListN.{length, take, drop};
 ghost use Rattle.bits.specs.Str.{bitsN, bytesBits, xorB, sameB, rotl, rotr, leftmost, rightmost, filled, double, everySecond};
 ghost use Rattle.block.specs.Block.{front};
+
+// The first k bytes of a part, worked where they lie, and a block, bit by bit; zeros after them.
+pub fn xor_part(part: &[u8], k: usize, b: [u8; 16]) -> [u8; 16]
+    requires { ⌜ (k ≤ 16) × (k ≤ length (now part)) ⌝ }
+    ensures { λ r. ⌜ bytesBits r ≡ filled 128 (xorB (bytesBits (take k (now (part .entry)))) (bytesBits b)) ⌝ }
+{
+    let mut r = [0u8; 16];
+    let mut i: usize = 0;
+    while i < k {
+        r[i] = part[i] ^ b[i];
+        i += 1;
+    }
+    r
+}
 
 // Two blocks, bit by bit.
 pub fn xor(a: [u8; 16], b: [u8; 16]) -> [u8; 16]
     ensures { λ r. ⌜ bytesBits r ≡ xorB (bytesBits a) (bytesBits b) ⌝ }
 {
-    let mut r = [0u8; 16];
-    let mut i: usize = 0;
-    while i < 16 {
-        r[i] = a[i] ^ b[i];
-        i += 1;
-    }
-    r
+    xor_part(&a, 16, b)
 }
 
 // Two blocks side by side.
@@ -50,13 +58,17 @@ pub fn window(a: [u8; 16], b: [u8; 16], s: usize) -> [u8; 16]
     r
 }
 
-// The first q bytes of a, and then b from its start.
-fn join_bytes(a: [u8; 16], q: usize, b: [u8; 16]) -> [u8; 16]
-    requires { ⌜ q ≤ 16 ⌝ }
-    ensures { λ r. ⌜ r ≡ take q a ++ take (16 - q) b ⌝ }
+// A block with the bytes of a part in the place of its own after the first q.
+pub fn after(a: [u8; 16], q: usize, part: &[u8]) -> [u8; 16]
+    requires { ⌜ q + length (now part) ≤ 16 ⌝ }
+    ensures { λ r. ⌜ r ≡ take q a ++ now (part .entry) ++ drop (q + length (now (part .entry))) a ⌝ }
 {
     let mut r = a;
-    put(b, 16 - q, &mut r[q..]);
+    let mut i: usize = 0;
+    while i < part.len() {
+        r[q + i] = part[i];
+        i += 1;
+    }
     r
 }
 
@@ -68,7 +80,8 @@ pub fn join(a: [u8; 16], n: usize, b: [u8; 16]) -> [u8; 16]
         return a;
     }
     if n % 8 == 0 {
-        return join_bytes(a, n / 8, b);
+        let q = n / 8;
+        return after(a, q, &b[..16 - q]);
     }
     window(window([0u8; 16], a, n), b, 128 - n)
 }
@@ -147,28 +160,14 @@ pub fn every_second(b: [u8; 16]) -> [u8; 16]
     xor(b, [0xf0; 16])
 }
 
-// The first k bytes of a part, and zeros.
-fn copy(s: &[u8], k: usize) -> [u8; 16]
-    requires { ⌜ (k ≤ 16) × (k ≤ length (now s)) ⌝ }
-    ensures { λ r. ⌜ r ≡ take k (now (s .entry)) ++ drop k (replicate 16 0) ⌝ }
-{
-    let mut r = [0u8; 16];
-    let mut i: usize = 0;
-    while i < k {
-        r[i] = s[i];
-        i += 1;
-    }
-    r
-}
-
 // A block from the front of a part: sixteen bytes, or fewer and zeros.
 pub fn front(s: &[u8]) -> [u8; 16]
     ensures { λ r. ⌜ r ≡ front (now (s .entry)) ⌝ }
 {
     if s.len() < 16 {
-        return copy(s, s.len());
+        return after([0u8; 16], 0, s);
     }
-    copy(s, 16)
+    after([0u8; 16], 0, &s[..16])
 }
 
 // Whether two parts hold the same bytes, and equally many. Where they are equally long every byte is looked at.
