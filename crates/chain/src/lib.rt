@@ -1,16 +1,17 @@
 // The heart of every tag, shared by one call and sessions and by all ciphers: a chain is begun, fed lent slices of bits, and closed.
 // A cipher is its number, and a block of its n bits stands in the first n of sixteen bytes: what stands after them is not looked at,
 // and what a public function gives out has zeros there. Round keys and the cipher's table are passed through, so that nothing is
-// computed twice within a call; the wide table is taken by `through` alone. Blocks are worked where they lie in the lent slice, and
-// only the block that waits is copied.
+// computed twice within a call; the wide table is taken by `through` alone. Each block of a lent message is passed on as the part
+// that it is and worked where it lies; bytes are copied only where bits wait, before the first block or after the last.
 ghost use mathlib.Core.Path.{_≡_};
 ghost use mathlib.Core.Bool.{_&&_, not};
+ghost use mathlib.Core.List.{_++_};
 ghost use Prim.Native.Nat.{_+_, _*_, _%_, _≤_, _<_};
 ghost use lib.ListN.{length, take, replicate};
 ghost use lib.Dec.{eqb};
 ghost use Rattle.bits.specs.Choice.{pick};
 ghost use Rattle.bits.specs.Str.{bytesBits, words, xorB, zeros, rotl, rotr, double};
-ghost use Rattle.block.specs.Block.{filledBlock};
+ghost use Rattle.block.specs.Block.{storage, filledBlock};
 ghost use Rattle.cipher.specs.Ciphers.{cipherAt, tableAt, roundKeysAt, encAt, decAt};
 ghost use Rattle.mac.specs.Padding.{methodAt, suffix, blockCount, complete};
 ghost use Rattle.mac.specs.Algorithm.{algorithmAt, row, Keys, step};
@@ -100,13 +101,14 @@ fn twice(algorithm: usize, begun: bool) -> bool
     false
 }
 
-// A block that is not the last goes through.
-fn advance(t: &cipher::Table, k: Keyed, begun: bool, h: [u8; 16], b: [u8; 16]) -> [u8; 16]
-    requires { ⌜ now t ≡ tableAt (k .cipher) ⌝ }
-    ensures { λ v. ⌜ Each k (λ K. take (widthOf k) (bytesBits v) ≡ step (stepsOf k K) begun (xorB (take (widthOf k) (bytesBits b)) (take (widthOf k) (bytesBits h))) .out) ⌝ }
+// A block that is not the last goes through, from where it lies.
+fn advance(t: &cipher::Table, k: Keyed, begun: bool, h: [u8; 16], part: &[u8]) -> [u8; 16]
+    requires { ⌜ (now t ≡ tableAt (k .cipher)) × (widthOf k ≤ 8 * length (now part)) ⌝ }
+    ensures { λ v. ⌜ Each k (λ K. take (widthOf k) (bytesBits v) ≡ step (stepsOf k K) begun (xorB (take (widthOf k) (bytesBits (now (part .entry)))) (take (widthOf k) (bytesBits h))) .out) ⌝ }
 {
     let first = k.rounds.first;
-    let x = enc(t, k.cipher, first, block::xor(b, h));
+    let size = cipher::width(k.cipher) / 8;
+    let x = enc(t, k.cipher, first, block::xor_part(part, size, h));
     if twice(k.settings.algorithm, begun) {
         let third = k.rounds.third;
         return enc(t, k.cipher, third, x);
@@ -164,6 +166,38 @@ fn begun_at(cipher: usize, padding: usize, total: usize) -> bool
     n < total
 }
 
+// The first block goes through: the part itself where nothing waits, else the block that waits with the part after its bits.
+fn first_through(
+    t: &cipher::Table,
+    k: Keyed,
+    hold: Hold,
+    total: usize,
+    waits: usize,
+    part: &[u8],
+) -> [u8; 16]
+    requires { ⌜ (now t ≡ tableAt (k .cipher)) × (waits + 8 * length (now part) ≡ widthOf k) ⌝ }
+    ensures { λ v. ⌜ Each k (λ K. take (widthOf k) (bytesBits v) ≡ step (stepsOf k K) (begunAt (widthOf k) (k .settings .padding) total) (xorB (take waits (bytesBits (hold .held)) ++ bytesBits (now (part .entry))) (take (widthOf k) (bytesBits (hold .value)))) .out) ⌝ }
+{
+    let value = hold.value;
+    let held = hold.held;
+    let begun = begun_at(k.cipher, k.settings.padding, total);
+    if waits == 0 {
+        return advance(t, k, begun, value, part);
+    }
+    let b = block::after(held, waits / 8, part);
+    advance(t, k, begun, value, &b)
+}
+
+// Bits that have to wait, after others that wait: the part that they are is copied, and only because it waits in the record.
+fn waiting_block(held: [u8; 16], waits: usize, bytes: &[u8], bits: usize) -> [u8; 16]
+    requires { ⌜ (waits + bits ≤ storage) × (bits ≤ 8 * length (now bytes)) × (0 < bits → waits % 8 ≡ 0) ⌝ }
+    ensures { λ v. ⌜ bytesBits v ≡ filledBlock (take waits (bytesBits held) ++ take bits (bytesBits (now (bytes .entry)))) ⌝ }
+{
+    let size = (bits + 7) / 8;
+    let b = block::after(held, waits / 8, &bytes[..size]);
+    block::leftmost(b, waits + bits)
+}
+
 // Bits come in after total others: each block goes through that a bit stands after, and the rest waits.
 pub fn feed(
     t: &cipher::Table,
@@ -180,26 +214,24 @@ pub fn feed(
     let held = hold.held;
     let n = cipher::width(k.cipher);
     let waits = held_bits(k.cipher, total);
-    let b = block::join(held, waits, block::front(bytes));
     let space = n - waits;
     if bits <= space {
         return Hold {
             value: block::leftmost(value, n),
-            held: block::leftmost(b, waits + bits),
+            held: waiting_block(held, waits, bytes, bits),
         };
     }
-    let begun = begun_at(k.cipher, k.settings.padding, total);
-    let h = advance(t, k, begun, value, b);
-    let rest = &bytes[space / 8..];
+    let edge = space / 8;
+    let h = first_through(t, k, hold, total, waits, &bytes[..edge]);
+    let rest = &bytes[edge..];
     let beyond = bits - space;
     let blocks = (beyond - 1) / n;
     let done = blocks * n;
     let first = k.rounds.first;
     let c = through(t, k.cipher, first, h, rest, blocks);
-    let last = block::front(&rest[done / 8..]);
     Hold {
         value: block::leftmost(c, n),
-        held: block::leftmost(last, beyond - done),
+        held: waiting_block([0u8; 16], 0, &rest[done / 8..], beyond - done),
     }
 }
 
@@ -227,7 +259,7 @@ pub fn begin(t: &cipher::Table, k: Keyed, declared: u32) -> Hold
     if k.settings.padding == 3 {
         let b = block::number(declared, n);
         return Hold {
-            value: block::leftmost(advance(t, k, false, h, b), n),
+            value: block::leftmost(advance(t, k, false, h, &b), n),
             held: [0u8; 16],
         };
     }
@@ -359,7 +391,7 @@ pub fn close(t: &cipher::Table, k: Keyed, hold: Hold, total: usize) -> [u8; 16]
     let waits = held_bits(k.cipher, total);
     if spills(padding, waits, n) {
         let begun = begun_at(k.cipher, padding, total);
-        let h = advance(t, k, begun, value, held);
+        let h = advance(t, k, begun, value, &held);
         return ended(t, k, true, h, p);
     }
     let b = block::join(held, waits, p);
