@@ -122,11 +122,13 @@ module _ (s : List ℕ) (ok : LaidOut s) where
         first-same (agreementFaults A keys) _ _
         (only-ten (settingsOf A) (length (covered s)) (omega (arith, covered-least s ok)) (omega (arith, covered-most s ok)) (tagLengthWrong (A .m) (length (tagNamed s))))
 
-    slip-first : (clear : firstOf (layoutFaults s) ≡ 0) → firstOf (faultsUnder A s keys) ≡ firstOf (sealTests ++ (30 given sealWrong A s keys ∷ []))
+    -- after the fields: the tests of the check, then 30
+    in-order : faultsUnder A s keys ≡ layoutFaults s ++ (sealTests ++ (30 given sealWrong A s keys ∷ []))
     unfolding faultsUnder
-    slip-first clear =
-        first-append-clear (layoutFaults s) _ (layout-numbered s) clear
-        ∙ ap firstOf (sym (append-assoc (agreementFaults A keys) (10 given tagLengthWrong (A .m) (length (tagNamed s)) ∷ []) (30 given sealWrong A s keys ∷ [])))
+    in-order = ap (λ (fs : List Fault). layoutFaults s ++ fs) (sym (append-assoc (agreementFaults A keys) (10 given tagLengthWrong (A .m) (length (tagNamed s)) ∷ []) (30 given sealWrong A s keys ∷ [])))
+
+    slip-first : (clear : firstOf (layoutFaults s) ≡ 0) → firstOf (faultsUnder A s keys) ≡ firstOf (sealTests ++ (30 given sealWrong A s keys ∷ []))
+    slip-first clear = ap firstOf in-order ∙ first-append-clear (layoutFaults s) _ (layout-numbered s) clear
 
 -- what the slip's answer is for each answer of the check
 unfoldable pub verdict : List ℕ → Outcome → Slip

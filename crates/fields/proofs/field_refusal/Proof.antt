@@ -16,7 +16,7 @@ use Rattle.fields.proofs.field_refusal.Tie as tie
 
 returns : tie.Need-returns
 unfolding fieldFaults firstOf
-returns c = hit _ _ _ _ (lt-ltb _ _ (c .if1 .taken)) refl
+returns c = hit _ _ _ _ (lt-ltb _ 3 (c .if1 .taken)) refl
 
 returns-2 : tie.Need-returns-2
 unfolding fieldFaults firstOf

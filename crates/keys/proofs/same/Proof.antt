@@ -1,6 +1,6 @@
 -- `same` meets its contract: K and K′ first, then K and K″, where the row asks it.
 -- Assumes nothing.
-use mathlib.Core.Path.{sym, ap, _∙_}
+use mathlib.Core.Path.{_≡_, sym, ap, _∙_}
 use mathlib.Core.Bool.{_&&_}
 use Rattle.bits.specs.Str.{bytesBits, sameB}
 use Rattle.mac.specs.declared.Row.{Row}
@@ -23,7 +23,8 @@ returns-2 c =
     let at = c .before .before .before .before .before .before in
     let keys = at .before .args .keys in
     let e = ap (λ (r : Row). r .differ && sameB (bytesBits (keys .first)) (bytesBits (keys .second))) (sym (at .row-of .ensures)) ∙ sym (c .before .before .same-where .ensures) ∙ c .before .if1 .left in
-    rw e (c .same-where2 .ensures ∙ ap (λ (r : Row). r .third && sameB (bytesBits (keys .first)) (bytesBits (keys .third))) (at .row-of .ensures))
+    let told : c .same-where2 .result ≡ (at .row-of .result .third && sameB (bytesBits (keys .first)) (bytesBits (keys .third))) = c .same-where2 .ensures in
+    rw e (told ∙ ap (λ (r : Row). r .third && sameB (bytesBits (keys .first)) (bytesBits (keys .third))) (at .row-of .ensures))
 
 pub same-spec : {M : Type 1} → statement M
 same-spec = tie.close (tie.spec (λ c κs. search needs) (λ c κs. search needs) returns (λ c κs. search needs) returns-2)

@@ -8,6 +8,7 @@ use lib.ListN.{length}
 use lib.Seq.{length-take-le}
 use Rattle.bits.proofs.Lists.{take-rest}
 use Rattle.settings.specs.declared.Outcome.{Outcome}
+use Rattle.tag.specs.OneCall.{checkOf}
 use Rattle.settings.specs.declared.Outcome.the-variants.{Accepted, Made, Yes, No, Refused}
 use Rattle.settings.proofs.Outcome.{the-type}
 use denote.Enum.Declared.{tagOf}
@@ -52,7 +53,7 @@ answered c =
     let s = b .args .slip .now in
     ap (verdict s)
     (c .check .ensures
-    ∙ rw (covered-is s (ok b) _ (seal-is b), covered-bits s (ok b) _ (seal-is b), take-rest (b .args .at .seal + 6) s ∙ tag-is s (ok b) _ (seal-is b)) refl)
+    ∙ (λ i. checkOf (b .args .agreed) (b .args .keys .now) (covered-is s (ok b) _ (seal-is b) i) (covered-bits s (ok b) _ (seal-is b) i) ((take-rest (b .args .at .seal + 6) s ∙ tag-is s (ok b) _ (seal-is b)) i)))
     ∙ judged s (b .pre .1) (b .args .agreed) (b .args .keys .now)
 
 add-tag-at : tie.Need-add-tag-at

@@ -42,7 +42,8 @@ put-requires c κs =
     let a = at .before .before .before .before .args in
     let t = taken (a .s) (length (a .message .now)) (a .bits) _ (sym (refusal at) ∙ made .before .if1 .left) in
     let r = ltb-false (length (a .room .now)) (bytesFor (a .s .m)) (t .room) in
-    (omega (arith, c .before .bytes-for .ensures), omega (arith, c .before .bytes-for .ensures, r))
+    let n : c .before .bytes-for .result ≡ bytesFor (a .s .m) = c .before .bytes-for .ensures in
+    (omega (arith, n), omega (arith, n, r))
 
 returns-2 : tie.Need-returns-2
 returns-2 c =

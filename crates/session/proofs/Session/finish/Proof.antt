@@ -56,7 +56,8 @@ returns-2 c =
     let total = a .self .total in
     let f = goes at in
     let room = room-is (a .self) (blocks start .0) (blocks start .1) (f .stands .short) (made .tag-block .result) (a .room .now) _ (put .before .before .bytes-for .result) (search needs) (made .tag-block .ensures) (put .before .before .bytes-for .ensures) (put .put .ensures) in
-    let calls = c .calls .ensures ∙ ap (λ (S : Settings). blockCount (methodAt (S .padding)) (cipherAt 1 .n) total + row (algorithmAt (S .algorithm)) .further) (c .before .of .ensures) ∙ calls-listed (a .self) (f .enough) in
+    let counted : c .calls .result ≡ blockCount (methodAt (c .before .of .result .padding)) (cipherAt 1 .n) total + row (algorithmAt (c .before .of .result .algorithm)) .further = c .calls .ensures in
+    let calls = counted ∙ ap (λ (S : Settings). blockCount (methodAt (S .padding)) (cipherAt 1 .n) total + row (algorithmAt (S .algorithm)) .further) (c .before .of .ensures) ∙ calls-listed (a .self) (f .enough) in
     hit _ _ _ _ (eq-eqb _ 0 (sym (at .before .finish-refusal .ensures) ∙ at .if1 .left)) (λ i. (record { answer = Made (calls i); session = c .before .before .closed-session .ensures i }, room i))
 
 pub finish-spec : {M : Type 1} → statement M
