@@ -2,8 +2,7 @@
 //! (approval draft), one-call making and checking, sessions by pieces, and lot slips.
 //! Written from the documents alone, to produce expected outputs and to compare with.
 //!
-//! Programs, for tests/make-runs: `commands` (generated command lines), `answer` (answers to command lines), `random` (the output of
-//! the gate's `test_random`).
+//! Programs, for tests/make-runs: `commands` (generated command lines), `answer` (answers to command lines).
 #![allow(clippy::manual_is_multiple_of)]
 
 pub mod call;

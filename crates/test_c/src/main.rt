@@ -1,0 +1,107 @@
+// The functions for C, each called as C calls it: a tag is made and checked; a session is started, fed, tried too early and with too
+// little room, and finished; a struct whose phase is none of the three comes back as it came; a slip is read. Every answer is known
+// beforehand (docs/ARCHITECTURE.md, "Tests").
+const KEYS: [u8; 32] = *b"\
+    \x01\x23\x45\x67\x89\xab\xcd\xef\xfe\xdc\xba\x98\x76\x54\x32\x10\
+    \x41\x49\xd2\xad\xed\x94\x56\x68\x1e\xc8\xb5\x11\xd9\xe7\xee\x04";
+
+const SLIP: [u8; 37] = *b"\
+    \x01\x00\x0820261104\x02\x00\x02A7\x03\x00\x04\x00\x00\x01\xf4\
+    \x7f\x00\x0b\x05\x04\x40\xa4\x7a\x92\x99\xc7\xb8\x45\x6c";
+
+fn main() {
+    let keys = KEYS;
+    one_call(&keys[0..16]);
+    in_session(&keys);
+    let slip = SLIP;
+    read(&slip, &keys[0..16]);
+    read(&slip, &keys[16..]);
+}
+
+fn number(n: usize) {
+    io::write_all(libc::STDOUT_FILENO, b" ");
+    io::print_decimal(libc::STDOUT_FILENO, n as u64);
+}
+
+fn print(text: &[u8]) {
+    io::write_all(libc::STDOUT_FILENO, text);
+}
+
+fn tell(what: &[u8], answer: slipseal::Answer) {
+    print(what);
+    number(answer.number);
+    number(answer.yes);
+    number(answer.calls);
+    print(b"\n");
+}
+
+fn bytes(s: &[u8]) {
+    let mut i = 0;
+    while i < s.len() {
+        io::print_hex(libc::STDOUT_FILENO, s[i] as u64, 2);
+        i += 1;
+    }
+    print(b"\n");
+}
+
+fn one_call(key: &[u8]) {
+    let agreed = settings::Agreement {
+        algorithm: 1,
+        padding: 1,
+        m: 64,
+    };
+    let mut tag = [0xEEu8; 9];
+    tell(b"make:", slipseal::slipseal_make(agreed, key, b"abc", 24, &mut tag));
+    bytes(&tag);
+    tell(b"check:", slipseal::slipseal_check(agreed, key, b"abc", 24, &tag[0..8]));
+    tell(b"another message:", slipseal::slipseal_check(agreed, key, b"abd", 24, &tag[0..8]));
+    tell(b"nine bytes:", slipseal::slipseal_check(agreed, key, b"abc", 24, &tag));
+}
+
+// The answer and the struct's phase, part and total; and the struct.
+fn handed(what: &[u8], step: slipseal::Step) -> slipseal::Session {
+    let answer = step.answer;
+    tell(what, answer);
+    let after = step.session;
+    print(b" ");
+    number(after.phase);
+    number(after.part);
+    number(after.total);
+    print(b"\n");
+    after
+}
+
+fn in_session(keys: &[u8]) {
+    let agreed = settings::Agreement {
+        algorithm: 4,
+        padding: 2,
+        m: 128,
+    };
+    let ones = [0xFFu8; 16];
+    let mut room = [0xEEu8; 16];
+    let begun = handed(b"start:", slipseal::slipseal_start(agreed, keys, 0));
+    let some = handed(b"piece:", slipseal::slipseal_piece(begun, &ones[0..15], 120));
+    let early = handed(b"finish, one block:", slipseal::slipseal_finish(some, &mut room));
+    let all = handed(b"piece:", slipseal::slipseal_piece(early, &ones[0..1], 8));
+    let short = handed(b"finish, little room:", slipseal::slipseal_finish(all, &mut room[0..15]));
+    bytes(&room);
+    let mut odd = short;
+    odd.phase = 7;
+    handed(b"an odd phase:", slipseal::slipseal_piece(odd, &ones[0..1], 8));
+    handed(b"finish:", slipseal::slipseal_finish(short, &mut room));
+    bytes(&room);
+}
+
+fn read(slip: &[u8], key: &[u8]) {
+    let answer = slipseal::slipseal_read(slip, key);
+    print(b"read:");
+    number(answer.number);
+    number(answer.year);
+    number(answer.month);
+    number(answer.day);
+    number(answer.amount);
+    number(answer.calls);
+    number(answer.lot_at);
+    number(answer.lot_len);
+    print(b"\n");
+}
