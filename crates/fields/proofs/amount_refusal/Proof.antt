@@ -16,7 +16,9 @@ returns c = head-first _ _ _ (c .before .field-refusal .ensures) (c .if1 .taken)
 
 -- the test is of the amount that the field names
 judged : (c : tie.After-outside) → c .outside .result ≡ outside 1 1000000 (amountOf (c .before .before .before .before .before .args .field .now))
-judged c = c .outside .ensures ∙ ap (outside 1 1000000) (c .before .amount .ensures)
+judged c =
+    let told : c .outside .result ≡ outside 1 1000000 (c .before .amount .result) = c .outside .ensures in
+    told ∙ ap (outside 1 1000000) (c .before .amount .ensures)
 
 returns-2 : tie.Need-returns-2
 unfolding amountFaults

@@ -89,7 +89,9 @@ returns-2 c =
     rw (c .contents-of .ensures) (ap (verdict (far .before .before .before .args .slip .now)) (sym (c .before .before .answer2 .given .1)) ∙ answered (c .before .before .before .before))
 
 returns-3 : tie.Need-returns-3
-returns-3 c = c .refused2 .ensures ∙ other _ _ (c .before .match .keys3) ∙ answered (c .before .before)
+returns-3 c =
+    let told : c .refused2 .result ≡ refusedSlip 30 = c .refused2 .ensures in
+    told ∙ other _ _ (c .before .match .keys3) ∙ answered (c .before .before)
 
 pub read-under-spec : {M : Type 1} → statement M
 read-under-spec =
