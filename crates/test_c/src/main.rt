@@ -51,11 +51,23 @@ fn one_call(key: &[u8]) {
         m: 64,
     };
     let mut tag = [0xEEu8; 9];
-    tell(b"make:", slipseal::slipseal_make(agreed, key, b"abc", 24, &mut tag));
+    tell(
+        b"make:",
+        slipseal::slipseal_make(agreed, key, b"abc", 24, &mut tag),
+    );
     bytes(&tag);
-    tell(b"check:", slipseal::slipseal_check(agreed, key, b"abc", 24, &tag[0..8]));
-    tell(b"another message:", slipseal::slipseal_check(agreed, key, b"abd", 24, &tag[0..8]));
-    tell(b"nine bytes:", slipseal::slipseal_check(agreed, key, b"abc", 24, &tag));
+    tell(
+        b"check:",
+        slipseal::slipseal_check(agreed, key, b"abc", 24, &tag[0..8]),
+    );
+    tell(
+        b"another message:",
+        slipseal::slipseal_check(agreed, key, b"abd", 24, &tag[0..8]),
+    );
+    tell(
+        b"nine bytes:",
+        slipseal::slipseal_check(agreed, key, b"abc", 24, &tag),
+    );
 }
 
 // The answer and the struct's phase, part and total; and the struct.
@@ -80,14 +92,26 @@ fn in_session(keys: &[u8]) {
     let ones = [0xFFu8; 16];
     let mut room = [0xEEu8; 16];
     let begun = handed(b"start:", slipseal::slipseal_start(agreed, keys, 0));
-    let some = handed(b"piece:", slipseal::slipseal_piece(begun, &ones[0..15], 120));
-    let early = handed(b"finish, one block:", slipseal::slipseal_finish(some, &mut room));
+    let some = handed(
+        b"piece:",
+        slipseal::slipseal_piece(begun, &ones[0..15], 120),
+    );
+    let early = handed(
+        b"finish, one block:",
+        slipseal::slipseal_finish(some, &mut room),
+    );
     let all = handed(b"piece:", slipseal::slipseal_piece(early, &ones[0..1], 8));
-    let short = handed(b"finish, little room:", slipseal::slipseal_finish(all, &mut room[0..15]));
+    let short = handed(
+        b"finish, little room:",
+        slipseal::slipseal_finish(all, &mut room[0..15]),
+    );
     bytes(&room);
     let mut odd = short;
     odd.phase = 7;
-    handed(b"an odd phase:", slipseal::slipseal_piece(odd, &ones[0..1], 8));
+    handed(
+        b"an odd phase:",
+        slipseal::slipseal_piece(odd, &ones[0..1], 8),
+    );
     handed(b"finish:", slipseal::slipseal_finish(short, &mut room));
     bytes(&room);
 }
