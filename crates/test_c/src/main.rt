@@ -35,10 +35,14 @@ fn tell(what: &[u8], answer: slipseal::Answer) {
     print(b"\n");
 }
 
+fn wide(byte: u8) -> u64 {
+    byte as u64
+}
+
 fn bytes(s: &[u8]) {
     let mut i = 0;
     while i < s.len() {
-        io::print_hex(libc::STDOUT_FILENO, s[i] as u64, 2);
+        io::print_hex(libc::STDOUT_FILENO, wide(s[i]), 2);
         i += 1;
     }
     print(b"\n");
@@ -83,6 +87,24 @@ fn handed(what: &[u8], step: slipseal::Step) -> slipseal::Session {
     after
 }
 
+// A finish with sixteen bytes of room, and the room.
+fn finish(what: &[u8], s: slipseal::Session) -> slipseal::Session {
+    let mut room = [0xEEu8; 16];
+    let after = handed(what, slipseal::slipseal_finish(s, &mut room));
+    bytes(&room);
+    after
+}
+
+fn finish_in_fifteen(s: slipseal::Session) -> slipseal::Session {
+    let mut room = [0xEEu8; 15];
+    let after = handed(
+        b"finish, little room:",
+        slipseal::slipseal_finish(s, &mut room),
+    );
+    bytes(&room);
+    after
+}
+
 fn in_session(keys: &[u8]) {
     let agreed = settings::Agreement {
         algorithm: 4,
@@ -90,30 +112,21 @@ fn in_session(keys: &[u8]) {
         m: 128,
     };
     let ones = [0xFFu8; 16];
-    let mut room = [0xEEu8; 16];
     let begun = handed(b"start:", slipseal::slipseal_start(agreed, keys, 0));
     let some = handed(
         b"piece:",
         slipseal::slipseal_piece(begun, &ones[0..15], 120),
     );
-    let early = handed(
-        b"finish, one block:",
-        slipseal::slipseal_finish(some, &mut room),
-    );
+    let early = finish(b"finish, one block:", some);
     let all = handed(b"piece:", slipseal::slipseal_piece(early, &ones[0..1], 8));
-    let short = handed(
-        b"finish, little room:",
-        slipseal::slipseal_finish(all, &mut room[0..15]),
-    );
-    bytes(&room);
+    let short = finish_in_fifteen(all);
     let mut odd = short;
     odd.phase = 7;
     handed(
         b"an odd phase:",
         slipseal::slipseal_piece(odd, &ones[0..1], 8),
     );
-    handed(b"finish:", slipseal::slipseal_finish(short, &mut room));
-    bytes(&room);
+    finish(b"finish:", short);
 }
 
 fn read(slip: &[u8], key: &[u8]) {
