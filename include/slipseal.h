@@ -2,7 +2,7 @@
  * numbers; there is no state, no allocation and no input or output behind it. The library is written and proved in Rattle; this
  * header is not part of the proof and repeats crates/slipseal/src/lib.rt by hand.
  *
- * Link libslipseal.a or libslipseal.so (bindings/build makes both). Of the C library only memcpy is used.
+ * Link libslipseal.a or libslipseal.so (bindings/build makes both). Of the C library only memcpy and memset are used.
  *
  * Pointers. No pointer may be null, not even where its length is 0; any other address does there. A pointer must be valid for its
  * length, for writing too where it is not const, and nothing else may write to those bytes during the call. A buffer that is
@@ -45,6 +45,8 @@
  *   23  the expiry is not a real date from 2000 to 2099
  *   24  there are bytes after the seal
  *   30  the seal is wrong
+ *
+ * When a slip is written, 22 and 23 speak of the lot, the amount and the date handed in, and 10 of the room for the whole slip.
  *
  * Keys stay where the caller put them, and a session's record holds a copy. Copies that a call made on the stack are not wiped,
  * and nothing is promised about how long a call takes. */
@@ -113,6 +115,13 @@ typedef struct slipseal_slip {
     uint64_t lot_len;
 } slipseal_slip;
 
+/* What is told of a slip that was written. A refusal has its number and zeros. */
+typedef struct slipseal_written {
+    uint64_t number; /* 0 for a written slip, else the refusal's */
+    uint64_t length; /* the slip's number of bytes, 29 to 75 */
+    uint64_t calls;  /* the cipher calls of the seal */
+} slipseal_written;
+
 /* Makes the tag of a message. Refusals: 1 to 10, rising; 10 where tag_len is under (m + 7) / 8, with the agreement's m. Otherwise
  * the tag is written into the first (m + 7) / 8 bytes at tag, the others stay, and the answer has number 0, yes 1 and the calls. */
 slipseal_answer slipseal_make(slipseal_agreement agreement, const uint8_t *keys, size_t keys_len, const uint8_t *message,
@@ -145,6 +154,16 @@ slipseal_step slipseal_finish(slipseal_session session, uint8_t *tag, size_t tag
  * length that is not allowed, 20 for a value cut short, 22 for a wrong value, 23 for no real date of 2000 to 2099; then 24 for bytes
  * after the seal; then 1 to 6; 10 where the seal's tag is not (m + 7) / 8 bytes long; 30 for a wrong seal. */
 slipseal_slip slipseal_read(const uint8_t *slip, size_t slip_len, const uint8_t *keys, size_t keys_len);
+
+/* Writes a lot slip: the fields 01, 02, 03 and 7F one after the other, 27 + lot_len + (m + 7) / 8 bytes in all. Room of 75 bytes is
+ * enough for any slip; the lot must not lie in it. Refusals, in this order: 22 where the lot is not 1 to 32 bytes, each 21 to 7E, or
+ * the amount is not 1 to 1000000 microlitres; 23 where year, month and day are no real date of 2000 to 2099; 1 to 6; 10 where
+ * room_len is short of the whole slip. Otherwise the slip is written into the first bytes at room, the others stay, and the answer
+ * has number 0, the slip's length and the calls.
+ * slipseal_read accepts the slip under the same keys and gives date, lot, amount and calls back. An accepted slip, written again
+ * under its keys from what was read and the agreement that its seal names, comes out the same byte for byte. */
+slipseal_written slipseal_write(slipseal_agreement agreement, const uint8_t *keys, size_t keys_len, size_t year, size_t month,
+                                size_t day, const uint8_t *lot, size_t lot_len, size_t amount, uint8_t *room, size_t room_len);
 
 #ifdef __cplusplus
 }

@@ -1,5 +1,5 @@
-/* Tests of the header against the library: the layout of the structs, and each function once accepted and once refused, with all
- * that it hands back. The many inputs are tried by the Rust and Python tests. */
+/* Tests of the header against the library: the layout of the structs, and each function accepted and refused, with all that it
+ * hands back. The many inputs are tried by the Rust and Python tests. */
 #include <stdio.h>
 #include <string.h>
 
@@ -10,6 +10,14 @@ static const uint8_t message[] = "This is the test message for mac";
 
 /* Annex A.6, algorithm 5, padding 4, 64 bits. */
 static const uint8_t printed[8] = {0x69, 0x2C, 0x43, 0x71, 0x00, 0xF3, 0xB5, 0xEE};
+
+/* 4 November 2026, lot A7, 500 microlitres, under algorithm 5, padding 4, 64 bits. */
+static const uint8_t example[37] = {
+    0x01, 0x00, 0x08, '2', '0', '2', '6', '1', '1', '0', '4',
+    0x02, 0x00, 0x02, 'A', '7',
+    0x03, 0x00, 0x04, 0x00, 0x00, 0x01, 0xF4,
+    0x7F, 0x00, 0x0B, 5, 4, 64, 0xA4, 0x7A, 0x92, 0x99, 0xC7, 0xB8, 0x45, 0x6C};
+static const slipseal_slip example_read = {0, 2026, 11, 4, 500, 3, 14, 2};
 
 static int tests, failures;
 
@@ -64,6 +72,8 @@ static void layout(void)
     expect(offsetof(slipseal_session, held) == 104, "place of the waiting block");
     expect(sizeof(slipseal_step) == 144, "size of a step");
     expect(sizeof(slipseal_slip) == 64, "size of a slip");
+    expect(sizeof(slipseal_written) == 24, "size of what is told of a written slip");
+    expect(offsetof(slipseal_written, length) == 8 && offsetof(slipseal_written, calls) == 16, "order in it");
 }
 
 static void one_call(void)
@@ -92,6 +102,8 @@ static void agreement(void)
         expect(is(slipseal_make(wrong[i], key, 16, message, 32, 256, tag, 16), i + 1, 0, 0), "make of a far number");
         expect(is(slipseal_check(wrong[i], key, 16, message, 32, 256, tag, 8), i + 1, 0, 0), "check of a far number");
         expect(is(slipseal_start(wrong[i], key, 16, 0).answer, i + 1, 0, 0), "start of a far number");
+        expect(slipseal_write(wrong[i], key, 16, 2026, 11, 4, message, 2, 500, tag, 16).number == (uint64_t)i + 1,
+               "write of a far number");
     }
     expect(filled(tag, 16, 0), "a refusal writes nothing");
 }
@@ -200,6 +212,139 @@ static void slip(void)
     expect(memcmp(&none, &zeros, sizeof none) == 0, "a refused slip has its number and zeros");
 }
 
+/* A call that writes a slip: the refusal that it gets or 0, then what goes in, and the bytes of room. */
+typedef struct writing {
+    uint64_t number;
+    slipseal_agreement agreement;
+    size_t keys_len, year, month, day;
+    const char *lot;
+    size_t lot_len, amount, room_len;
+} writing;
+
+/* The room lies in these bytes, from 8 on. */
+static uint8_t around[96];
+
+/* The keys are one key twice: good to byte 16, and refused with 5 where two must differ. */
+static slipseal_written written(writing w)
+{
+    uint8_t keys[32];
+    memcpy(keys, key, 16);
+    memcpy(keys + 16, key, 16);
+    memset(around, 0xAA, sizeof around);
+    return slipseal_write(w.agreement, keys, w.keys_len, w.year, w.month, w.day, (const uint8_t *)w.lot, w.lot_len, w.amount,
+                          around + 8, w.room_len);
+}
+
+static int told(slipseal_written done, uint64_t number, uint64_t length, uint64_t calls)
+{
+    return done.number == number && done.length == length && done.calls == calls;
+}
+
+static int slip_alone(const uint8_t *slip, size_t length)
+{
+    return filled(around, 8, 0xAA) && memcmp(around + 8, slip, length) == 0 && filled(around + 8 + length, 88 - length, 0xAA);
+}
+
+static void written_and_read(void)
+{
+    const writing w = {0, {5, 4, 64}, 16, 2026, 11, 4, "A7", 2, 500, 80};
+    slipseal_slip read;
+    expect(told(written(w), 0, 37, 3), "write accepted");
+    expect(slip_alone(example, 37), "the example's bytes and no more");
+    read = slipseal_read(around + 8, 37, key, 16);
+    expect(memcmp(&read, &example_read, sizeof read) == 0, "a written slip read");
+
+    read = slipseal_read(example, 37, key, 16);
+    memset(around, 0xAA, sizeof around);
+    expect(told(slipseal_write(agreed(example[26], example[27], example[28]), key, 16, read.year, read.month, read.day,
+                               example + read.lot_at, read.lot_len, read.amount, around + 8, 80),
+                0, 37, read.calls),
+           "write of what was read");
+    expect(slip_alone(example, 37), "the slip that was read");
+}
+
+/* One byte more than a lot may have. */
+static const char long_lot[] = "0123456789ABCDEF!~abcdefghijklmno";
+
+static void refused_writes(void)
+{
+    const size_t far = (size_t)1 << 32;
+    const writing wrong[] = {
+        /* each alone */
+        {22, {5, 4, 64}, 16, 2026, 11, 4, "A7", 0, 500, 80},
+        {22, {5, 4, 64}, 16, 2026, 11, 4, long_lot, 33, 500, 80},
+        {22, {5, 4, 64}, 16, 2026, 11, 4, "A 7", 3, 500, 80},
+        {22, {5, 4, 64}, 16, 2026, 11, 4, "A\x7F", 2, 500, 80},
+        {22, {5, 4, 64}, 16, 2026, 11, 4, "A7", 2, 0, 80},
+        {22, {5, 4, 64}, 16, 2026, 11, 4, "A7", 2, 1000001, 80},
+        {22, {5, 4, 64}, 16, 2026, 11, 4, "A7", 2, far + 500, 80},
+        {23, {5, 4, 64}, 16, 1999, 11, 4, "A7", 2, 500, 80},
+        {23, {5, 4, 64}, 16, 2100, 11, 4, "A7", 2, 500, 80},
+        {23, {5, 4, 64}, 16, 2026, 0, 4, "A7", 2, 500, 80},
+        {23, {5, 4, 64}, 16, 2026, 13, 4, "A7", 2, 500, 80},
+        {23, {5, 4, 64}, 16, 2026, 11, 0, "A7", 2, 500, 80},
+        {23, {5, 4, 64}, 16, 2026, 11, 31, "A7", 2, 500, 80},
+        {23, {5, 4, 64}, 16, 2023, 2, 29, "A7", 2, 500, 80},
+        {23, {5, 4, 64}, 16, far + 2026, 11, 4, "A7", 2, 500, 80},
+        {23, {5, 4, 64}, 16, 2026, far + 11, 4, "A7", 2, 500, 80},
+        {23, {5, 4, 64}, 16, 2026, 11, far + 4, "A7", 2, 500, 80},
+        /* with each later one */
+        {22, {9, 9, 999}, 3, 2026, 13, 4, "", 0, 500, 0},
+        {22, {9, 9, 999}, 3, 2026, 13, 4, "A7", 2, 0, 0},
+        {23, {9, 9, 999}, 3, 2026, 13, 4, "A7", 2, 500, 0},
+        {1, {9, 9, 999}, 3, 2026, 11, 4, "A7", 2, 500, 0},
+        {2, {4, 9, 999}, 3, 2026, 11, 4, "A7", 2, 500, 0},
+        {3, {4, 1, 999}, 3, 2026, 11, 4, "A7", 2, 500, 0},
+        {4, {4, 1, 64}, 3, 2026, 11, 4, "A7", 2, 500, 0},
+        {5, {4, 1, 64}, 32, 2026, 11, 4, "A7", 2, 500, 0},
+        {10, {3, 1, 64}, 32, 2026, 11, 4, "A7", 2, 500, 0}};
+    size_t i;
+    for (i = 0; i < sizeof wrong / sizeof wrong[0]; i++) {
+        expect(told(written(wrong[i]), wrong[i].number, 0, 0), "a refused write has its number and zeros");
+        expect(filled(around, 96, 0xAA), "a refusal writes nothing");
+    }
+}
+
+static int refused_short(writing w, size_t length)
+{
+    for (w.room_len = 0; w.room_len < length; w.room_len++) {
+        if (!told(written(w), 10, 0, 0) || !filled(around, 96, 0xAA)) {
+            return 0;
+        }
+    }
+    return 1;
+}
+
+/* The example, the shortest slip and the longest, each in a room that just fits. */
+static void rooms(void)
+{
+    const writing fits[] = {
+        {0, {5, 4, 64}, 16, 2026, 11, 4, "A7", 2, 500, 37},
+        {0, {1, 1, 1}, 16, 2000, 1, 1, "!", 1, 1, 29},
+        {0, {1, 1, 128}, 16, 2096, 2, 29, long_lot, 32, 1000000, 75}};
+    size_t i;
+    for (i = 0; i < sizeof fits / sizeof fits[0]; i++) {
+        const writing w = fits[i];
+        const slipseal_written done = written(w);
+        const slipseal_slip read = slipseal_read(around + 8, w.room_len, key, 16);
+        expect(told(done, 0, w.room_len, read.calls) && read.number == 0, "a room that just fits");
+        expect(filled(around, 8, 0xAA) && filled(around + 8 + w.room_len, 88 - w.room_len, 0xAA), "bytes around the slip stay");
+        expect(read.year == w.year && read.month == w.month && read.day == w.day && read.amount == w.amount, "date and amount");
+        expect(read.lot_len == w.lot_len && memcmp(around + 8 + read.lot_at, w.lot, w.lot_len) == 0, "lot");
+        expect(refused_short(w, w.room_len), "every room that is short");
+    }
+}
+
+/* Where a length is 0, any address but null does. */
+static void no_bytes(void)
+{
+    uint8_t *const nowhere = (uint8_t *)1;
+    const slipseal_agreement a = agreed(5, 4, 64);
+    expect(told(slipseal_write(a, nowhere, 0, 2026, 11, 4, message, 2, 500, around, 96), 4, 0, 0), "no keys");
+    expect(told(slipseal_write(a, key, 16, 2026, 11, 4, nowhere, 0, 500, around, 96), 22, 0, 0), "no lot");
+    expect(told(slipseal_write(a, key, 16, 2026, 11, 4, message, 2, 500, nowhere, 0), 10, 0, 0), "no room");
+}
+
 int main(void)
 {
     layout();
@@ -210,6 +355,10 @@ int main(void)
     forged();
     handed_back();
     slip();
+    written_and_read();
+    refused_writes();
+    rooms();
+    no_bytes();
     printf("c: %d tests, %d failed\n", tests, failures);
     return failures != 0;
 }

@@ -19,13 +19,15 @@ below 0 or over 2**64 - 1 cannot be handed over and raises ValueError.
 """
 
 import ctypes
+import datetime
 import operator
 import os
-from typing import NamedTuple, Optional, Union
+from typing import NamedTuple, Optional, Tuple, Union
 
-__all__ = ["Agreement", "Checked", "Made", "Refused", "Session", "Slip", "check", "make", "read_slip"]
+__all__ = ["Agreement", "Checked", "Made", "Refused", "Session", "Slip", "check", "make", "read_slip", "write_slip"]
 
 Bytes = Union[bytes, bytearray, memoryview]
+Date = Union[datetime.date, Tuple[int, int, int]]
 
 WORDS = {
     1: "the algorithm is not one of 1 to 8",
@@ -87,7 +89,8 @@ class Checked(NamedTuple):
 
 
 class Slip(NamedTuple):
-    """An accepted slip: the expiry, the amount in microlitres, the lot, where it stands in the slip, and the cipher calls."""
+    """An accepted slip: the expiry, the amount in microlitres, the lot, where it stands in the slip, and the cipher calls. The
+    expiry can be had as a datetime.date too."""
 
     year: int
     month: int
@@ -96,6 +99,10 @@ class Slip(NamedTuple):
     lot: bytes
     lot_at: int
     calls: int
+
+    @property
+    def expiry(self) -> datetime.date:
+        return datetime.date(self.year, self.month, self.day)
 
 
 def make(agreement: Agreement, keys: Bytes, message: Bytes, bits: Optional[int] = None) -> Made:
@@ -112,7 +119,7 @@ def make(agreement: Agreement, keys: Bytes, message: Bytes, bits: Optional[int] 
     Traceback (most recent call last):
     slipseal.Refused: refused 3: the tag's number of bits is not allowed for the algorithm
     """
-    room = _room()
+    room = _room(16)
     answer = _library.slipseal_make(
         _agreed(agreement), *_slice(keys), *_slice_and_bits(message, bits), room, len(room)
     )
@@ -176,7 +183,7 @@ class Session:
 
     def finish(self) -> Made:
         """Ends the session. Refused with the first that applies of 11, 12, 9; more bits may then follow."""
-        room, m = _room(), self._record.agreement.m
+        room, m = _room(16), self._record.agreement.m
         step = _library.slipseal_finish(self._record, room, len(room))
         self._record = step.session
         _accept(step.answer.number)
@@ -193,6 +200,8 @@ def read_slip(slip: Bytes, keys: Bytes) -> Slip:
     ... )
     >>> read_slip(slip, key)
     Slip(year=2026, month=11, day=4, amount=500, lot=b'A7', lot_at=14, calls=3)
+    >>> read_slip(slip, key).expiry
+    datetime.date(2026, 11, 4)
     >>> read_slip(slip, bytes(16))
     Traceback (most recent call last):
     slipseal.Refused: refused 30: the seal is wrong
@@ -202,6 +211,33 @@ def read_slip(slip: Bytes, keys: Bytes) -> Slip:
     _accept(read.number)
     lot = slip[read.lot_at : read.lot_at + read.lot_len]
     return Slip(read.year, read.month, read.day, read.amount, lot, read.lot_at, read.calls)
+
+
+def write_slip(agreement: Agreement, keys: Bytes, expiry: Date, lot: Bytes, amount: int) -> bytes:
+    """Writes a lot slip, sealed under an agreement and keys. The expiry is a datetime.date or a tuple of year, month and day; the lot
+    1 to 32 bytes, each 21 to 7E; the amount 1 to 1,000,000 microlitres. Refused with the first that applies of 22 (lot or amount),
+    23 (expiry), 1 to 6.
+
+    read_slip accepts the slip under the same keys, gives expiry, lot and amount back and tells the cipher calls. An accepted slip,
+    written again under its keys and the agreement that its seal names, comes out the same byte for byte.
+
+    >>> key = bytes.fromhex("0123456789ABCDEFFEDCBA9876543210")
+    >>> slip = write_slip(Agreement(5, 4, 64), key, datetime.date(2026, 11, 4), b"A7", 500)
+    >>> slip.hex().upper()
+    '01000832303236313130340200024137030004000001F47F000B050440A47A9299C7B8456C'
+    >>> read = read_slip(slip, key)
+    >>> write_slip(Agreement(5, 4, 64), key, read.expiry, read.lot, read.amount) == slip
+    True
+    >>> write_slip(Agreement(5, 4, 64), key, (2023, 2, 29), b"A7", 500)
+    Traceback (most recent call last):
+    slipseal.Refused: refused 23: the expiry is not a real date from 2000 to 2099
+    """
+    room = _room(75)
+    written = _library.slipseal_write(
+        _agreed(agreement), *_slice(keys), *_date(expiry), *_slice(lot), *_numbers(amount), room, len(room)
+    )
+    _accept(written.number)
+    return bytes(room)[: written.length]
 
 
 # ---- what crosses
@@ -231,9 +267,16 @@ def _slice_and_bits(value: Bytes, bits: Optional[int]) -> "tuple[bytes, int, int
     return value, length, 8 * length if bits is None else _numbers(bits)[0]
 
 
-def _room() -> "ctypes.Array[ctypes.c_uint8]":
-    """Room for the longest tag."""
-    return (ctypes.c_uint8 * 16)()
+def _date(value: Date) -> "list[int]":
+    if isinstance(value, datetime.date):
+        value = value.year, value.month, value.day
+    year, month, day = value
+    return _numbers(year, month, day)
+
+
+def _room(length: int) -> "ctypes.Array[ctypes.c_uint8]":
+    """The longest tag has 16 bytes, the longest slip 75."""
+    return (ctypes.c_uint8 * length)()
 
 
 def _accept(number: int) -> None:
@@ -273,6 +316,10 @@ class _Slip(ctypes.Structure):
     ]
 
 
+class _Written(ctypes.Structure):
+    _fields_ = [(name, ctypes.c_uint64) for name in ("number", "length", "calls")]
+
+
 def _agreed(agreement: Agreement) -> _Agreement:
     return _Agreement(*_numbers(agreement.algorithm, agreement.padding, agreement.m))
 
@@ -298,6 +345,7 @@ def _loaded() -> ctypes.CDLL:
         ("piece", [_Record] + lent + [number], _Step),
         ("finish", [_Record] + room, _Step),
         ("read", lent + lent, _Slip),
+        ("write", [_Agreement] + lent + [number] * 3 + lent + [number] + room, _Written),
     ):
         function = getattr(library, "slipseal_" + name)
         function.argtypes, function.restype = arguments, result

@@ -1,11 +1,12 @@
-"""Tests of slipseal.py: annex A in one call and in pieces, the runs R4 to R7 of the requirements, every refusal with its words,
-records that no call handed out, and what Python alone can get wrong (numbers too large, other kinds of bytes, a "no" taken for
-true).
+"""Tests of slipseal.py: annex A in one call and in pieces, the runs R4 to R7 of the requirements, slips written and read, every
+refusal with its words, records that no call handed out, and what Python alone can get wrong (numbers too large, other kinds of
+bytes, what is no date, a "no" taken for true).
 
     python3 -m unittest          in this folder
 """
 
 import array
+import datetime
 import doctest
 import os
 import re
@@ -14,7 +15,7 @@ import sys
 import unittest
 
 import slipseal
-from slipseal import Agreement, Refused, Session, check, make, read_slip
+from slipseal import Agreement, Refused, Session, check, make, read_slip, write_slip
 
 ROOT = os.path.join(os.path.dirname(os.path.abspath(__file__)), "..", "..")
 MESSAGE = b"This is the test message for mac"
@@ -22,6 +23,7 @@ KEY = bytes.fromhex("0123456789ABCDEFFEDCBA9876543210")
 KEYS = KEY + bytes.fromhex("4149D2ADED9456681EC8B511D9E7EE04")
 COVERED = bytes.fromhex("01000832303236313130340200024137030004000001F4")
 SLIP = COVERED + bytes.fromhex("7F000B050440A47A9299C7B8456C")
+AGREED, DAY = Agreement(5, 4, 64), datetime.date(2026, 11, 4)  # those of SLIP
 
 
 def text(*path):
@@ -262,14 +264,17 @@ class Sessions(Case):
 
 
 class Slips(Case):
+    R6 = (
+        (AGREED, "7F000B050440A47A9299C7B8456C", KEY, 3),
+        (Agreement(2, 2, 64), "7F000B02024025BE21F5FDEE57F4", KEYS, 3),
+        (Agreement(1, 1, 12), "7F000501010CA330", KEY, 2),
+    )
+
     def test_r6_accepted(self):
-        for seal, keys, calls in (
-            ("7F000B050440A47A9299C7B8456C", KEY, 3),
-            ("7F000B02024025BE21F5FDEE57F4", KEYS, 3),
-            ("7F000501010CA330", KEY, 2),
-        ):
+        for _, seal, keys, calls in self.R6:
             slip = read_slip(COVERED + bytes.fromhex(seal), keys)
             self.assertEqual(slip, (2026, 11, 4, 500, b"A7", 14, calls))
+            self.assertEqual(slip.expiry, DAY)
 
     def test_r6_refused(self):
         self.refused(4, read_slip, SLIP, KEY[:15])
@@ -282,6 +287,72 @@ class Slips(Case):
         for digits, number in (("", 20), ("55", 20), ("010009", 22), ("01000832", 20), ("020008", 21)):
             self.refused(number, read_slip, bytes.fromhex(digits), KEY)
         self.refused(20, read_slip, COVERED, KEY)
+
+    def test_r6_written(self):
+        for agreement, seal, keys, _ in self.R6:
+            for expiry in (DAY, (2026, 11, 4), [2026, 11, 4]):
+                slip = write_slip(agreement, keys, expiry, b"A7", 500)
+                self.assertIs(type(slip), bytes)
+                self.assertEqual(slip, COVERED + bytes.fromhex(seal))
+
+    def test_both_ways(self):
+        """A slip made with make is read to its contents and written from them."""
+        for algorithm in range(1, 9):
+            keys = KEYS if algorithm in (2, 3, 4, 6) else KEY
+            for padding in (4,) if algorithm in (5, 7, 8) else (1, 2, 3):
+                for m in (1, 7, 8, 9, 12, 63) if algorithm == 7 else (1, 7, 8, 9, 12, 63, 64, 127, 128):
+                    agreement = Agreement(algorithm, padding, m)
+                    expiry = DAY + datetime.timedelta(days=m)
+                    lot, amount = MESSAGE.replace(b" ", b"~")[: m % 32 + 1], 7812 * m
+                    covered = b"\1\0\x08" + expiry.strftime("%Y%m%d").encode() + b"\2\0" + bytes([len(lot)]) + lot
+                    covered += b"\3\0\4" + amount.to_bytes(4, "big")
+                    tag, calls = make(agreement, keys, covered)
+                    slip = covered + b"\x7F\0" + bytes([3 + len(tag), algorithm, padding, m]) + tag
+                    with self.subTest(agreement=agreement):
+                        read = read_slip(slip, keys)
+                        self.assertEqual((read.expiry, read.lot, read.amount, read.calls), (expiry, lot, amount, calls))
+                        self.assertEqual(write_slip(agreement, keys, read.expiry, read.lot, read.amount), slip)
+
+    def test_every_day(self):
+        day = datetime.date(2000, 1, 1)
+        while day.year < 2100:
+            self.assertEqual(write_slip(AGREED, KEY, day, b"A7", 500)[3:11], day.strftime("%Y%m%d").encode())
+            day += datetime.timedelta(days=1)
+        for day in (day, datetime.date(1999, 12, 31), datetime.date.min, datetime.date.max):
+            self.refused(23, write_slip, AGREED, KEY, day, b"A7", 500)
+
+    def test_refused_writes(self):
+        for number, agreed, keys, expiry, lot, amount in (
+            (22, (9, 9, 0), b"", (2026, 11, 31), b"", 500),
+            (22, (9, 9, 0), b"", (2026, 11, 31), b"A7", 0),
+            (22, (5, 4, 64), KEY, (2026, 11, 4), b"A" * 33, 500),
+            (22, (5, 4, 64), KEY, (2026, 11, 4), b"A 7", 500),
+            (22, (5, 4, 64), KEY, (2026, 11, 4), b"A\0", 500),
+            (22, (5, 4, 64), KEY, (2026, 11, 4), b"A\x7F", 500),
+            (22, (5, 4, 64), KEY, (2026, 11, 4), b"A7", 1000001),
+            (22, (5, 4, 64), KEY, (2026, 11, 4), b"A7", 2**32 + 500),
+            (22, (5, 4, 64), KEY, (2026, 11, 4), b"A7", 2**64 - 1),
+            (23, (9, 9, 0), b"", (2026, 11, 31), b"A7", 500),
+            (23, (5, 4, 64), KEY, (2026, 0, 4), b"A7", 500),
+            (23, (5, 4, 64), KEY, (2026, 13, 4), b"A7", 500),
+            (23, (5, 4, 64), KEY, (2026, 11, 0), b"A7", 500),
+            (23, (5, 4, 64), KEY, (2023, 2, 29), b"A7", 500),
+            (23, (5, 4, 64), KEY, (2**32 + 2026, 11, 4), b"A7", 500),
+            (23, (5, 4, 64), KEY, (2026, 2**32 + 11, 4), b"A7", 500),
+            (23, (5, 4, 64), KEY, (2026, 11, 2**32 + 4), b"A7", 500),
+            (1, (9, 9, 0), b"", (2026, 11, 4), b"A7", 500),
+            (1, (2**32 + 5, 4, 64), KEY, (2026, 11, 4), b"A7", 500),
+            (2, (4, 9, 0), b"", (2026, 11, 4), b"A7", 500),
+            (3, (4, 1, 0), b"", (2026, 11, 4), b"A7", 500),
+            (4, (4, 1, 64), b"", (2026, 11, 4), b"A7", 500),
+            (5, (4, 1, 64), KEY + KEY, (2026, 11, 4), b"A7", 500),
+        ):
+            with self.subTest(number=number, agreed=agreed, expiry=expiry, lot=lot, amount=amount):
+                self.refused(number, write_slip, Agreement(*agreed), keys, expiry, lot, amount)
+
+    def test_the_longest_and_the_shortest(self):
+        self.assertEqual(len(write_slip(Agreement(8, 4, 128), KEY, DAY, b"~" * 32, 1000000)), 75)
+        self.assertEqual(len(write_slip(Agreement(8, 4, 1), KEY, DAY, b"!", 1)), 29)
 
 
 class Words(Case):
@@ -308,12 +379,22 @@ class Handed(Case):
             self.assertRaises(ValueError, make, Agreement(1, 1, 64), KEY, b"", number)
             self.assertRaises(ValueError, Session, Agreement(1, 3, 64), KEY, number)
             self.assertRaises(ValueError, Session(Agreement(1, 1, 64), KEY).piece, b"", number)
+            self.assertRaises(ValueError, write_slip, Agreement(number, 4, 64), KEY, DAY, b"A7", 500)
+            self.assertRaises(ValueError, write_slip, AGREED, KEY, DAY, b"A7", number)
+            for date in ((number, 11, 4), (2026, number, 4), (2026, 11, number)):
+                self.assertRaises(ValueError, write_slip, AGREED, KEY, date, b"A7", 500)
 
     def test_what_is_no_number_or_no_bytes(self):
         self.assertRaises(TypeError, make, Agreement(1.0, 1, 64), KEY, b"")
         for keys in (None, 16, "0" * 16, [0] * 16):
             self.assertRaises(TypeError, make, Agreement(1, 1, 64), keys, b"")
             self.assertRaises(TypeError, read_slip, keys, KEY)
+            self.assertRaises(TypeError, write_slip, AGREED, KEY, DAY, keys, 500)
+        for date in (None, 20261104, (2026, 11, 4.0), "204"):
+            self.assertRaises(TypeError, write_slip, AGREED, KEY, date, b"A7", 500)
+        for date in ((), (2026, 11), (2026, 11, 4, 0), "2026-11-04"):
+            self.assertRaises(ValueError, write_slip, AGREED, KEY, date, b"A7", 500)
+        self.assertRaises(TypeError, write_slip, AGREED, KEY, DAY, b"A7", 500.0)
 
     def test_other_kinds_of_bytes(self):
         plain = Agreement(1, 1, 64)
@@ -321,6 +402,7 @@ class Handed(Case):
         for kind in (bytearray, memoryview, lambda value: array.array("B", value)):
             self.assertEqual(make(plain, kind(KEY), kind(MESSAGE)), made)
             self.assertEqual(read_slip(kind(SLIP), kind(KEY)).lot, b"A7")
+            self.assertEqual(write_slip(AGREED, kind(KEY), DAY, kind(b"A7"), 500), SLIP)
         self.assertEqual(make(plain, KEY, memoryview(MESSAGE)[::2]), make(plain, KEY, MESSAGE[::2]))
 
     def test_a_missing_library_is_named(self):

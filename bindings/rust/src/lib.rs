@@ -33,7 +33,7 @@ mod slip;
 
 pub use refusal::Refusal;
 pub use session::{RefusedFinish, Session};
-pub use slip::{read_slip, Slip};
+pub use slip::{read_slip, write_slip, Contents, Slip, Written};
 
 /// What was agreed on how a tag is made. Any numbers may stand here; the calls refuse those that are not allowed, with 1, 2 and 3.
 ///

@@ -2,7 +2,7 @@
 //! with slices for its pointers. This is the one place with `unsafe`: a slice goes as its pointer, which is never null, and its
 //! length. The tests and the benchmark of the repository use it too; everyone else has the functions of the crate's root.
 
-use crate::Agreement;
+use crate::{Agreement, Contents};
 
 #[repr(C)]
 #[derive(Clone, Copy)]
@@ -45,6 +45,14 @@ pub struct Slip {
     pub lot_len: u64,
 }
 
+#[repr(C)]
+#[derive(Clone, Copy)]
+pub struct Written {
+    pub number: u64,
+    pub length: u64,
+    pub calls: u64,
+}
+
 extern "C" {
     fn slipseal_make(
         agreement: Agreement,
@@ -75,6 +83,20 @@ extern "C" {
     fn slipseal_finish(session: Record, tag: *mut u8, tag_len: usize) -> Step;
 
     fn slipseal_read(slip: *const u8, slip_len: usize, keys: *const u8, keys_len: usize) -> Slip;
+
+    fn slipseal_write(
+        agreement: Agreement,
+        keys: *const u8,
+        keys_len: usize,
+        year: usize,
+        month: usize,
+        day: usize,
+        lot: *const u8,
+        lot_len: usize,
+        amount: usize,
+        room: *mut u8,
+        room_len: usize,
+    ) -> Written;
 }
 
 pub fn make(agreement: Agreement, keys: &[u8], message: &[u8], bits: usize, room: &mut [u8]) -> Answer {
@@ -107,4 +129,13 @@ pub fn finish(record: Record, room: &mut [u8]) -> Step {
 pub fn read(slip: &[u8], keys: &[u8]) -> Slip {
     // SAFETY: each pointer comes from a slice and goes with its length.
     unsafe { slipseal_read(slip.as_ptr(), slip.len(), keys.as_ptr(), keys.len()) }
+}
+
+pub fn write(agreement: Agreement, keys: &[u8], contents: Contents<'_>, room: &mut [u8]) -> Written {
+    let Contents { year, month, day, lot, amount } = contents;
+    let [year, month, day, amount] = [year, month, day, amount].map(|number| number as usize); // both have 64 bits
+    let (k, k_len, l, l_len, r, r_len) =
+        (keys.as_ptr(), keys.len(), lot.as_ptr(), lot.len(), room.as_mut_ptr(), room.len());
+    // SAFETY: each pointer comes from a slice and goes with its length; the room is lent to this call alone.
+    unsafe { slipseal_write(agreement, k, k_len, year, month, day, l, l_len, amount, r, r_len) }
 }

@@ -1,19 +1,35 @@
-//! Lot slips: expiry, lot and amount of a reagent bottle under a seal. A slip is believed whole or refused with its number.
+//! Lot slips: expiry, lot and amount of a reagent bottle under a seal. A slip is believed whole or refused with its number, and it is
+//! written whole or not at all.
 
-use crate::{raw, Refusal};
+use crate::{raw, Agreement, Refusal};
 
-/// An accepted slip.
+/// What a slip says. Any numbers and bytes may stand here; [`write_slip`] refuses those that are not allowed, with 22 and 23, and
+/// [`read_slip`] gives none of them.
 #[derive(Clone, Copy, Debug, PartialEq, Eq)]
-pub struct Slip<'a> {
+pub struct Contents<'a> {
     /// The expiry: a real date of the years 2000 to 2099.
     pub year: u64,
     pub month: u64,
     pub day: u64,
+    /// 1 to 32 bytes, each 21 to 7E.
+    pub lot: &'a [u8],
     /// In microlitres, 1 to 1,000,000.
     pub amount: u64,
-    /// That very part of the slip: 1 to 32 bytes, each 21 to 7E.
-    pub lot: &'a [u8],
+}
+
+/// An accepted slip.
+#[derive(Clone, Copy, Debug, PartialEq, Eq)]
+pub struct Slip<'a> {
+    /// What it says; the lot is that very part of the slip.
+    pub contents: Contents<'a>,
     /// The cipher calls of the seal's check.
+    pub calls: u64,
+}
+
+/// A slip that was written: the front of the room lent for it, 29 to 75 bytes, and the number of cipher calls.
+#[derive(Debug, PartialEq, Eq)]
+pub struct Written<'a> {
+    pub slip: &'a [u8],
     pub calls: u64,
 }
 
@@ -30,8 +46,9 @@ pub struct Slip<'a> {
 /// let bytes = b"\x01\x00\x0820261104\x02\x00\x02A7\x03\x00\x04\x00\x00\x01\xF4\
 ///     \x7F\x00\x0B\x05\x04\x40\xA4\x7A\x92\x99\xC7\xB8\x45\x6C";
 /// let slip = slipseal::read_slip(bytes, &key)?;
-/// assert_eq!((slip.year, slip.month, slip.day), (2026, 11, 4));
-/// assert_eq!((slip.lot, slip.amount, slip.calls), (&b"A7"[..], 500, 3));
+/// let said = slip.contents;
+/// assert_eq!((said.year, said.month, said.day), (2026, 11, 4));
+/// assert_eq!((said.lot, said.amount, slip.calls), (&b"A7"[..], 500, 3));
 ///
 /// let wrong = slipseal::read_slip(bytes, &[0; 16]).unwrap_err();
 /// assert_eq!(wrong.to_string(), "refused 30: the seal is wrong");
@@ -42,5 +59,45 @@ pub fn read_slip<'a>(slip: &'a [u8], keys: &[u8]) -> Result<Slip<'a>, Refusal> {
     Refusal::of(read.number)?;
     let lot = &slip[read.lot_at as usize..][..read.lot_len as usize];
     let raw::Slip { year, month, day, amount, calls, .. } = read;
-    Ok(Slip { year, month, day, amount, lot, calls })
+    Ok(Slip { contents: Contents { year, month, day, lot, amount }, calls })
+}
+
+/// Writes a slip, sealed under an agreement and keys, in the front of `room`; what stands behind it stays. It has 27 bytes, the lot's
+/// and ⌈m/8⌉ more, so 75 bytes of room are enough for any slip.
+///
+/// [`read_slip`] accepts it under the same keys and gives the contents and the calls back. The contents of an accepted slip, written
+/// under its keys and the agreement that its seal names, come out as that slip, byte for byte.
+///
+/// # Errors
+///
+/// The first that applies of 22 (lot or amount), 23 (date), 1 to 6, and 10 where the room is short of the whole slip. The room is
+/// then as before.
+///
+/// ```
+/// use slipseal::{read_slip, write_slip, Agreement, Contents};
+///
+/// let (key, agreement) = ([7; 16], Agreement { algorithm: 5, padding: 4, m: 64 });
+/// let contents = Contents { year: 2026, month: 11, day: 4, lot: b"A7", amount: 500 };
+/// let mut room = [0; 75];
+/// let written = write_slip(agreement, &key, contents, &mut room)?;
+/// assert_eq!((written.slip.len(), written.calls), (37, 3));
+///
+/// let slip = read_slip(written.slip, &key)?;
+/// assert_eq!(slip.contents, contents);
+/// let mut other = [0; 75];
+/// assert_eq!(write_slip(agreement, &key, slip.contents, &mut other)?, written);
+///
+/// let refusal = write_slip(agreement, &key, Contents { month: 13, ..contents }, &mut other).unwrap_err();
+/// assert_eq!(refusal.to_string(), "refused 23: the expiry is not a real date from 2000 to 2099");
+/// # Ok::<(), slipseal::Refusal>(())
+/// ```
+pub fn write_slip<'a>(
+    agreement: Agreement,
+    keys: &[u8],
+    contents: Contents<'_>,
+    room: &'a mut [u8],
+) -> Result<Written<'a>, Refusal> {
+    let written = raw::write(agreement, keys, contents, room);
+    Refusal::of(written.number)?;
+    Ok(Written { slip: &room[..written.length as usize], calls: written.calls })
 }

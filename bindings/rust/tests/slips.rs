@@ -1,9 +1,19 @@
-//! Lot slips: the run R6 of the requirements, and slips made here with `make`.
+//! Lot slips: the run R6 of the requirements, read and written; slips made here with `make`, which must be read to their contents and
+//! written from them; every refusal of a write, their order, and what a write leaves in the room lent to it.
 
 mod common;
 
-use common::{agreed, hex, key, keys};
-use slipseal::{make, read_slip, Agreement};
+use common::{agreed, calls, hex, key, keys};
+use slipseal::{make, read_slip, write_slip, Agreement, Contents};
+
+const GOOD: Contents<'static> = Contents { year: 2026, month: 11, day: 4, lot: b"A7", amount: 500 };
+
+/// Seal, bytes of the keys, and calls of the accepted ones.
+const R6: [(&str, usize, u64); 3] = [
+    ("7F000B050440 A47A9299C7B8456C", 16, 3),
+    ("7F000B020240 25BE21F5FDEE57F4", 32, 3),
+    ("7F000501010C A330", 16, 2),
+];
 
 const COVERED: &str = "01000832303236313130340200024137030004000001F4";
 
@@ -19,34 +29,31 @@ fn refused(slip: &[u8], keys: &[u8]) -> u64 {
     read_slip(slip, keys).unwrap_err().number()
 }
 
-/// The fields with a seal made under K.
-fn sealed(fields: &[u8], agreement: Agreement) -> Vec<u8> {
+/// The slip with these contents, and a seal made with `make`.
+fn sealed(agreement: Agreement, keys: &[u8], contents: Contents) -> Vec<u8> {
+    let Contents { year, month, day, lot, amount } = contents;
+    let expiry = format!("\x01\x00\x08{year:04}{month:02}{day:02}").into_bytes();
+    let amount = (amount as u32).to_be_bytes();
+    let fields = [&expiry[..], &[2, 0, lot.len() as u8], lot, &[3, 0, 4], &amount].concat();
     let mut room = [0; 16];
-    let tag = make(agreement, &key(), fields, 8 * fields.len(), &mut room).unwrap().tag;
+    let tag = make(agreement, keys, &fields, 8 * fields.len(), &mut room).unwrap().tag;
     let Agreement { algorithm, padding, m } = agreement;
     let head = [0x7F, 0, 3 + tag.len() as u8, algorithm as u8, padding as u8, m as u8];
-    [fields, &head, tag].concat()
+    [&fields, &head[..], tag].concat()
 }
 
 fn with_lot(lot: &[u8]) -> Vec<u8> {
-    let fields =
-        [b"\x01\x00\x0820991231\x02\x00", &[lot.len() as u8][..], lot, b"\x03\x00\x04\x00\x0F\x42\x40"]
-            .concat();
-    sealed(&fields, agreed(8, 4, 128))
+    let contents = Contents { year: 2099, month: 12, day: 31, lot, amount: 1_000_000 };
+    sealed(agreed(8, 4, 128), &key(), contents)
 }
 
 #[test]
 fn r6_accepted() {
-    for (seal, keys, calls) in [
-        ("7F000B050440 A47A9299C7B8456C", key(), 3),
-        ("7F000B020240 25BE21F5FDEE57F4", keys(), 3),
-        ("7F000501010C A330", key(), 2),
-    ] {
+    for (seal, length, calls) in R6 {
         let bytes = slip(seal);
-        let read = read_slip(&bytes, &keys).unwrap();
-        assert_eq!((read.year, read.month, read.day, read.amount, read.calls), (2026, 11, 4, 500, calls));
-        assert_eq!(read.lot, b"A7");
-        assert!(std::ptr::eq(read.lot, &bytes[14..16]), "the lot is that very part of the slip");
+        let read = read_slip(&bytes, &keys()[..length]).unwrap();
+        assert_eq!((read.contents, read.calls), (GOOD, calls));
+        assert!(std::ptr::eq(read.contents.lot, &bytes[14..16]), "the lot is that very part of the slip");
     }
 }
 
@@ -109,11 +116,178 @@ fn lots_of_1_to_32_bytes() {
         let lot: Vec<u8> = (0..length).map(|i| 0x7E - i).collect();
         let slip = with_lot(&lot);
         let read = read_slip(&slip, &key()).unwrap();
-        assert_eq!((read.year, read.month, read.day, read.amount), (2099, 12, 31, 1_000_000));
-        assert_eq!(read.lot, lot);
+        let contents = Contents { year: 2099, month: 12, day: 31, lot: &lot, amount: 1_000_000 };
+        assert_eq!(read.contents, contents);
     }
     assert_eq!(refused(&with_lot(b""), &key()), 22);
     assert_eq!(refused(&with_lot(&[b'A'; 33]), &key()), 22);
     assert_eq!(refused(&with_lot(b"A 7"), &key()), 22);
     assert_eq!(refused(&with_lot(b"A\x7F"), &key()), 22);
+}
+
+// ---- written
+
+/// A slip that was written, and the calls; the room behind it must be as it was.
+fn written(agreement: Agreement, keys: &[u8], contents: Contents) -> (Vec<u8>, u64) {
+    let before: [u8; 80] = std::array::from_fn(|i| 0xFF - i as u8);
+    let mut room = before;
+    let written = write_slip(agreement, keys, contents, &mut room).unwrap();
+    let (slip, calls) = (written.slip.to_vec(), written.calls);
+    assert_eq!(room[slip.len()..], before[slip.len()..], "bytes past the slip stay");
+    (slip, calls)
+}
+
+/// The number of a refused write, which must leave the room.
+fn unwritten(agreement: Agreement, keys: &[u8], contents: Contents, room: usize) -> u64 {
+    let mut bytes = vec![0xAA; room];
+    let refusal = write_slip(agreement, keys, contents, &mut bytes).unwrap_err();
+    assert_eq!(bytes, vec![0xAA; room], "a refusal writes nothing");
+    refusal.number()
+}
+
+/// The number of a write under a good agreement and with room for any slip, 0 where it is accepted.
+fn judged(contents: Contents) -> u64 {
+    let mut room = [0xAA; 75];
+    let refusal = write_slip(agreed(5, 4, 64), &key(), contents, &mut room).err();
+    assert_eq!(room == [0xAA; 75], refusal.is_some(), "a refusal writes nothing");
+    refusal.map_or(0, |refusal| refusal.number())
+}
+
+#[test]
+fn r6_written() {
+    for (seal, length, calls) in R6 {
+        let named = hex(&seal[6..12]);
+        let agreement = agreed(named[0].into(), named[1].into(), named[2].into());
+        assert_eq!(written(agreement, &keys()[..length], GOOD), (slip(seal), calls));
+    }
+}
+
+/// A slip made with `make` is read to its contents and written from them, under every agreement.
+#[test]
+fn both_ways() {
+    for algorithm in 1..=8 {
+        let keys = if matches!(algorithm, 2..=4 | 6) { keys() } else { key() };
+        let paddings = if matches!(algorithm, 5 | 7 | 8) { 4..=4 } else { 1..=3 };
+        let most = if algorithm == 7 { 63 } else { 128 };
+        for (padding, m) in paddings.flat_map(|padding| (1..=most).map(move |m| (padding, m))) {
+            let agreement = agreed(algorithm, padding, m);
+            let lot: Vec<u8> = (0..m % 32 + 1).map(|i| 0x21 + ((m + 7 * i) % 94) as u8).collect();
+            let (year, month, day) = (2000 + m % 100, m % 12 + 1, m % 28 + 1);
+            let contents = Contents { year, month, day, lot: &lot, amount: 7812 * m };
+            let slip = sealed(agreement, &keys, contents);
+            let read = read_slip(&slip, &keys).unwrap();
+            let calls = calls(algorithm, padding, 8 * (21 + lot.len()));
+            assert_eq!((read.contents, read.calls), (contents, calls), "{agreement:?}");
+            assert_eq!(written(agreement, &keys, read.contents), (slip.clone(), calls), "{agreement:?}");
+        }
+    }
+}
+
+#[test]
+fn every_date() {
+    let days = |year, month| match month {
+        2 if year % 4 == 0 => 29,
+        2 => 28,
+        4 | 6 | 9 | 11 => 30,
+        _ => 31,
+    };
+    for (year, month) in (1999..=2100).flat_map(|year| (0..=13).map(move |month| (year, month))) {
+        for day in 0..=32 {
+            let real = (2000..=2099).contains(&year)
+                && (1..=12).contains(&month)
+                && (1..=days(year, month)).contains(&day);
+            let contents = Contents { year, month, day, ..GOOD };
+            assert_eq!(judged(contents), if real { 0 } else { 23 }, "{year}, {month}, {day}");
+        }
+    }
+}
+
+#[test]
+fn every_byte_and_length_of_a_lot() {
+    for byte in 0..=255 {
+        let allowed = (0x21..=0x7E).contains(&byte);
+        for lot in [&[byte][..], &[b'A', byte], &[byte, b'7']] {
+            assert_eq!(judged(Contents { lot, ..GOOD }), if allowed { 0 } else { 22 }, "byte {byte}");
+        }
+    }
+    for length in 0..=300 {
+        let lot = vec![b'A'; length];
+        let number = judged(Contents { lot: &lot, ..GOOD });
+        assert_eq!(number, if (1..=32).contains(&length) { 0 } else { 22 }, "{length} bytes");
+    }
+}
+
+#[test]
+fn amounts() {
+    for amount in [1, 2, 255, 256, 65_535, 65_536, 999_999, 1_000_000] {
+        let contents = Contents { amount, ..GOOD };
+        let slip = written(agreed(5, 4, 64), &key(), contents).0;
+        assert_eq!(slip[19..23], (amount as u32).to_be_bytes());
+        assert_eq!(read_slip(&slip, &key()).unwrap().contents, contents);
+    }
+    for amount in [0, 1_000_001, u32::MAX.into(), (1 << 32) + 500, u64::MAX] {
+        assert_eq!(judged(Contents { amount, ..GOOD }), 22, "{amount}");
+    }
+}
+
+/// What a narrower type would cut to a good number is refused.
+#[test]
+fn far_numbers() {
+    let plain = agreed(5, 4, 64);
+    for far in [1 << 8, 1 << 16, 1 << 31, 1 << 32, 1 << 63] {
+        assert_eq!(judged(Contents { year: far + 2026, ..GOOD }), 23);
+        assert_eq!(judged(Contents { month: far + 11, ..GOOD }), 23);
+        assert_eq!(judged(Contents { day: far + 4, ..GOOD }), 23);
+        assert_eq!(unwritten(agreed(far + 5, 4, 64), &key(), GOOD, 75), 1);
+        assert_eq!(unwritten(agreed(5, far + 4, 64), &key(), GOOD, 75), 2);
+        assert_eq!(unwritten(agreed(5, 4, far + 64), &key(), GOOD, 75), 3);
+    }
+    for far in [1 << 32, 1 << 63] {
+        assert_eq!(unwritten(plain, &key(), Contents { amount: far + 500, ..GOOD }, 75), 22);
+    }
+    let all = Contents { year: u64::MAX, month: u64::MAX, day: u64::MAX, ..GOOD };
+    assert_eq!(unwritten(plain, &key(), all, 75), 23);
+}
+
+#[test]
+fn each_room() {
+    let long = [b'~'; 32];
+    for (agreement, contents, length) in [
+        (agreed(5, 4, 64), GOOD, 37),
+        (agreed(1, 1, 1), Contents { lot: b"!", ..GOOD }, 29),
+        (agreed(1, 2, 8), Contents { lot: b"!", ..GOOD }, 29),
+        (agreed(1, 3, 9), Contents { lot: b"!", ..GOOD }, 30),
+        (agreed(8, 4, 128), Contents { lot: &long, ..GOOD }, 75),
+    ] {
+        for room in 0..length {
+            assert_eq!(unwritten(agreement, &key(), contents, room), 10, "{room} bytes for {length}");
+        }
+        for room in length..length + 3 {
+            let mut bytes = vec![0xAA; room];
+            let written = write_slip(agreement, &key(), contents, &mut bytes).unwrap();
+            assert_eq!(written.slip, sealed(agreement, &key(), contents), "{room} bytes for {length}");
+            assert_eq!(bytes[length..], [0xAA; 2][..room - length]);
+        }
+    }
+}
+
+#[test]
+fn the_first_fault_is_told() {
+    let mut call = (agreed(9, 9, 999), vec![0; 3], Contents { day: 31, lot: b"A 7", amount: 0, ..GOOD });
+    let mut told = |change: fn(&mut (Agreement, Vec<u8>, Contents))| {
+        change(&mut call);
+        let number = unwritten(call.0, &call.1, call.2, 0);
+        assert_eq!(number, unwritten(call.0, &call.1, call.2, 36), "with more room");
+        number
+    };
+    assert_eq!(told(|_| ()), 22);
+    assert_eq!(told(|call| call.2.lot = b"A7"), 22);
+    assert_eq!(told(|call| (call.2.lot, call.2.amount) = (b"", 500)), 22);
+    assert_eq!(told(|call| call.2.lot = b"A7"), 23);
+    assert_eq!(told(|call| call.2.day = 30), 1);
+    assert_eq!(told(|call| call.0.algorithm = 4), 2);
+    assert_eq!(told(|call| call.0.padding = 1), 3);
+    assert_eq!(told(|call| call.0.m = 64), 4);
+    assert_eq!(told(|call| call.1 = vec![7; 32]), 5);
+    assert_eq!(told(|call| call.1[31] = 8), 10);
 }

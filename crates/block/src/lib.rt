@@ -1,6 +1,6 @@
 // Sixteen bytes by value, of which a block of n bits takes the first n. One function moves bits, `window`; joining, truncation, turns
 // and doubling are calls of it, but where whole bytes are joined, none is moved by bits. Every function answers every argument but
-// `xor_part`, `after` and `put`, whose bytes must be there or have room, and five that take a width n, which sixteen bytes must hold.
+// `xor_part`, `after`, `put_part` and `put`, whose bytes must be there or have room, and five that take a width n, which sixteen bytes must hold.
 ghost use mathlib.Core.Path.{_≡_};
 ghost use mathlib.Core.List.{_++_};
 ghost use Prim.Native.Nat.{_+_, _-_, _≤_, _<_};
@@ -193,14 +193,22 @@ pub fn equal(a: [u8; 16], b: [u8; 16]) -> bool
     equal_bytes(&a, &b)
 }
 
+// Puts the bytes of a part into the room.
+pub fn put_part(part: &[u8], room: &mut [u8])
+    requires { ⌜ length (now part) ≤ length (now room) ⌝ }
+    ensures { λ _. ⌜ now (room .exit) ≡ now (part .entry) ++ drop (length (now (part .entry))) (now (room .entry)) ⌝ }
+{
+    let mut i: usize = 0;
+    while i < part.len() {
+        room[i] = part[i];
+        i += 1;
+    }
+}
+
 // Puts the first n bytes of a block into the room.
 pub fn put(block: [u8; 16], n: usize, room: &mut [u8])
     requires { ⌜ (n ≤ 16) × (n ≤ length (now room)) ⌝ }
     ensures { λ _. ⌜ now (room .exit) ≡ take n block ++ drop n (now (room .entry)) ⌝ }
 {
-    let mut i: usize = 0;
-    while i < n {
-        room[i] = block[i];
-        i += 1;
-    }
+    put_part(&block[..n], room);
 }

@@ -17,6 +17,14 @@ use Rattle.fields.proofs.amount.Kinds as amount-k
 use Rattle.fields.proofs.amount.Reads as amount
 use Rattle.fields.proofs.laid_out.Kinds as laid-out-k
 use Rattle.fields.proofs.laid_out.Reads as laid-out
+use Rattle.fields.proofs.outside.Kinds as outside-k
+use Rattle.fields.proofs.outside.Reads as outside
+use Rattle.fields.proofs.any_outside.Kinds as any-outside-k
+use Rattle.fields.proofs.any_outside.Reads as any-outside
+use Rattle.fields.proofs.date_wrong.Kinds as date-wrong-k
+use Rattle.fields.proofs.date_wrong.Reads as date-wrong
+use Rattle.fields.proofs.amount_wrong.Kinds as amount-wrong-k
+use Rattle.fields.proofs.amount_wrong.Reads as amount-wrong
 
 pub byte-at-unique : Unique byte-at-k.ps byte-at-k.r byte-at.Asked byte-at.Learnt
 byte-at-unique κs a g p x y = (same (x .ensures .0) (y .ensures .0), refl)
@@ -38,3 +46,15 @@ amount-unique κs a g p x y = (same (x .ensures) (y .ensures), refl)
 
 pub laid-out-unique : Unique laid-out-k.ps laid-out-k.r laid-out.Asked laid-out.Learnt
 laid-out-unique κs a g p x y = (same (x .ensures) (y .ensures), refl)
+
+pub outside-unique : Unique outside-k.ps outside-k.r outside.Asked outside.Learnt
+outside-unique κs a g p x y = (same (x .ensures) (y .ensures), refl)
+
+pub any-outside-unique : Unique any-outside-k.ps any-outside-k.r any-outside.Asked any-outside.Learnt
+any-outside-unique κs a g p x y = (same (x .ensures) (y .ensures), refl)
+
+pub date-wrong-unique : Unique date-wrong-k.ps date-wrong-k.r date-wrong.Asked date-wrong.Learnt
+date-wrong-unique κs a g p x y = (same (x .ensures) (y .ensures), refl)
+
+pub amount-wrong-unique : Unique amount-wrong-k.ps amount-wrong-k.r amount-wrong.Asked amount-wrong.Learnt
+amount-wrong-unique κs a g p x y = (same (x .ensures) (y .ensures), refl)

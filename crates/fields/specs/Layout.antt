@@ -1,5 +1,6 @@
 -- A slip's four fields, one after the other, and everything that can be wrong with them: refusals 20 to 24 (01, "The lot slip").
 -- Assumes nothing.
+use mathlib.Core.Bool.{Bool}
 use mathlib.Core.List.{List, [], _∷_, _++_}
 use Prim.Native.Nat.{ℕ, _+_, _*_}
 use lib.ListN.{length, take, drop}
@@ -52,8 +53,11 @@ lotFaults field = fieldFaults lotRow field
 unfoldable pub amountOf : List ℕ → ℕ
 amountOf field = twoBytes field 3 * 65536 + twoBytes field 5
 
+abbrev pub amountWrong : ℕ → Bool
+amountWrong amount = outside 1 1000000 amount
+
 unfoldable pub amountFaults : List ℕ → List Fault
-amountFaults field = fieldFaults amountRow field ++ (22 given outside 1 1000000 (amountOf field) ∷ [])
+amountFaults field = fieldFaults amountRow field ++ (22 given amountWrong (amountOf field) ∷ [])
 
 -- 7F seal: bytes after the seal, 24
 unfoldable pub sealFaults : List ℕ → List Fault

@@ -6,7 +6,7 @@ ghost use lib.ListN.{length, getD};
 ghost use Rattle.bits.specs.Choice.{firstOf};
 ghost use Rattle.fields.specs.Field.{outside, anyOutside, twoBytes, lengthOf, endOf, fieldFaults};
 ghost use Rattle.fields.specs.Date.{daysIn, dateWrong, digitAt, twoDigits, yearOf, monthOf, dayOf};
-ghost use Rattle.fields.specs.Layout.{placesOf, layoutOf, amountOf, expiryFaults, amountFaults, sealFaults, layoutFaults};
+ghost use Rattle.fields.specs.Layout.{placesOf, layoutOf, amountOf, amountWrong, expiryFaults, amountFaults, sealFaults, layoutFaults};
 
 // What a field may hold: its label, the least and the most bytes of its value, and the lowest and the highest that each may be.
 pub struct Row {
@@ -19,7 +19,7 @@ pub struct Row {
 
 // ---- the format
 
-const EXPIRY_ROW: Row = Row {
+pub const EXPIRY_ROW: Row = Row {
     label: 0x01,
     least: 8,
     most: 8,
@@ -27,7 +27,7 @@ const EXPIRY_ROW: Row = Row {
     high: 0x39,
 };
 
-const LOT_ROW: Row = Row {
+pub const LOT_ROW: Row = Row {
     label: 0x02,
     least: 1,
     most: 32,
@@ -35,7 +35,7 @@ const LOT_ROW: Row = Row {
     high: 0x7E,
 };
 
-const AMOUNT_ROW: Row = Row {
+pub const AMOUNT_ROW: Row = Row {
     label: 0x03,
     least: 4,
     most: 4,
@@ -43,7 +43,7 @@ const AMOUNT_ROW: Row = Row {
     high: 0xFF,
 };
 
-const SEAL_ROW: Row = Row {
+pub const SEAL_ROW: Row = Row {
     label: 0x7F,
     least: 4,
     most: 19,
@@ -89,7 +89,7 @@ fn two_bytes(s: &[u8], i: usize) -> usize
     byte_at(s, i) * 256 + byte_at(s, i + 1)
 }
 
-fn outside(least: usize, most: usize, x: usize) -> bool
+pub fn outside(least: usize, most: usize, x: usize) -> bool
     ensures { λ r. ⌜ r ≡ outside least most x ⌝ }
 {
     if x < least {
@@ -99,7 +99,7 @@ fn outside(least: usize, most: usize, x: usize) -> bool
 }
 
 // Whether some byte is outside.
-fn any_outside(least: usize, most: usize, s: &[u8]) -> bool
+pub fn any_outside(least: usize, most: usize, s: &[u8]) -> bool
     ensures { λ r. ⌜ r ≡ anyOutside least most (now (s .entry)) ⌝ }
 {
     let mut i = 0;
@@ -199,7 +199,7 @@ fn days_in(year: usize, month: usize) -> u8
     DAYS[row][at]
 }
 
-fn date_wrong(year: usize, month: usize, day: usize) -> bool
+pub fn date_wrong(year: usize, month: usize, day: usize) -> bool
     ensures { λ r. ⌜ r ≡ dateWrong year month day ⌝ }
 {
     if outside(2000, 2099, year) {
@@ -239,6 +239,12 @@ pub fn amount(field: &[u8]) -> usize
     two_bytes(field, 3) * 65536 + two_bytes(field, 5)
 }
 
+pub fn amount_wrong(amount: usize) -> bool
+    ensures { λ r. ⌜ r ≡ amountWrong amount ⌝ }
+{
+    outside(1, 1000000, amount)
+}
+
 fn amount_refusal(field: &[u8]) -> usize
     ensures { λ r. ⌜ r ≡ firstOf (amountFaults (now (field .entry))) ⌝ }
 {
@@ -246,7 +252,7 @@ fn amount_refusal(field: &[u8]) -> usize
     if no != 0 {
         return no;
     }
-    if outside(1, 1000000, amount(field)) {
+    if amount_wrong(amount(field)) {
         return 22;
     }
     0

@@ -1,13 +1,13 @@
 -- Settings that are not refused: their list of faults has no number 0 (`settings-numbered`), so no fault is there, and the tag
--- length lies between 1 and 128 (`sound-size`); and what the builder's two answers say (`unsound-is`, `sound-is`).
+-- length lies between 1 and 128 (`sound-size`) and each number is a byte (`sound-bytes`); and what the builder's two answers say (`unsound-is`, `sound-is`).
 -- Assumes nothing.
 use mathlib.Core.Path.{_≡_, refl, sym, subst}
-use mathlib.Core.Bool.{Bool, true, false, _||_, false≢true}
+use mathlib.Core.Bool.{Bool, true, false, _||_, not, false≢true}
 use mathlib.Core.List.{List, [], _++_}
 use Prim.Native.Nat.{ℕ, _≤_, _<_}
 use native.Mathlib.Omega.{arith}
 use lib.Dec.{eqb, ltb}
-use borrow.Author.Tests.{ltb-false, eqb-true, eqb-false}
+use borrow.Author.Tests.{ltb-false, eqb-true, eqb-false, not-false}
 use Rattle.bits.specs.Choice.{pick, Fault}
 use Rattle.bits.proofs.Faults.{Clear, passed, done, Numbered, also, none, first-clear}
 use Rattle.mac.specs.declared.Row.{Row}
@@ -17,7 +17,7 @@ use Rattle.settings.specs.declared.Agreement.{Agreement}
 use Rattle.settings.specs.declared.Settings.{Settings}
 use Rattle.settings.specs.declared.Checked.{Checked}
 use Rattle.settings.specs.declared.Checked.the-variants.{Sound, Unsound}
-use Rattle.settings.specs.Faults.{settingsFaults, settingsRefusal, sizeWrong}
+use Rattle.settings.specs.Faults.{settingsFaults, settingsRefusal, algorithmWrong, paddingWrong, sizeWrong}
 use Rattle.settings.specs.Answers.{settingsOf, checkedOf}
 
 -- also where other faults come after them
@@ -49,6 +49,21 @@ module _ (A : Agreement) (n : ℕ) (K : Keys) where
   pub sound-size : settingsRefusal A n K ≡ 0 → (0 < A .m) × (A .m ≤ 128)
   unfolding settingsRefusal
   sound-size e = sound-clear (first-clear _ (settings-alone A n K) e)
+
+  -- so each number of the agreement is a byte
+  byte-clear : Clear (settingsFaults A n K) → (A .algorithm < 256) × ((A .padding < 256) × (A .m < 256))
+  unfolding settingsFaults algorithmWrong paddingWrong pick
+  byte-clear (passed e1 (passed e2 more)) =
+      let size = sound-clear (passed e1 (passed e2 more)) in
+      (omega (arith, ltb-false 8 (A .algorithm) (neither (ltb (A .algorithm) 1) (ltb 8 (A .algorithm)) e1 .1)), (padded (row (algorithmAt (A .algorithm)) .four) e2, omega (arith, size .1)))
+    where
+      padded : (four : Bool) → pick four (not (eqb (A .padding) 4)) (ltb (A .padding) 1 || ltb 3 (A .padding)) ≡ false → A .padding < 256
+      padded true e = let is = eqb-true (A .padding) 4 (not-false (eqb (A .padding) 4) e) in omega arith
+      padded false e = omega (arith, ltb-false 3 (A .padding) (neither (ltb (A .padding) 1) (ltb 3 (A .padding)) e .1))
+
+  pub sound-bytes : settingsRefusal A n K ≡ 0 → (A .algorithm < 256) × ((A .padding < 256) × (A .m < 256))
+  unfolding settingsRefusal
+  sound-bytes e = byte-clear (first-clear _ (settings-alone A n K) e)
 
   -- ---- what the builder's answers say
 

@@ -4,4 +4,7 @@ pub mod Numbers
 pub mod OneCheck
 pub mod Enough
 pub mod Borders
+pub mod Printing
+pub mod RoundTrip
+pub mod PrintedAnswers
 pub mod Unique

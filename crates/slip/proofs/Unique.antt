@@ -11,6 +11,8 @@ use Rattle.slip.proofs.lot_in.Kinds as lot-in-k
 use Rattle.slip.proofs.lot_in.Reads as lot-in
 use Rattle.slip.proofs.lot.Kinds as lot-k
 use Rattle.slip.proofs.lot.Reads as lot
+use Rattle.slip.proofs.write.Kinds as write-k
+use Rattle.slip.proofs.write.Reads as write
 
 pub read-unique : Unique read-k.ps read-k.r read.Asked read.Learnt
 read-unique κs a g p x y = (same (x .ensures) (y .ensures), refl)
@@ -20,3 +22,6 @@ lot-in-unique κs a g p x y = (same (x .ensures) (y .ensures), refl)
 
 pub lot-unique : UniqueBy lot-k.ps lot-k.r lot.Asked lot.Learnt (λ κs z. seen z)
 lot-unique κs a g p x y = (same (x .ensures) (y .ensures), refl)
+
+pub write-unique : Unique write-k.ps write-k.r write.Asked write.Learnt
+write-unique κs a g p x y = let e = same (x .ensures) (y .ensures) in (λ i. e i .0, λ i. (tt, (tt, (tt, (tt, (tt, (tt, (tt, (e i .1, tt)))))))))

@@ -1,2 +1,3 @@
 pub mod Slip
 pub mod Part
+pub mod Printed

@@ -1,10 +1,16 @@
 // A lot slip, read whole under the caller's keys: believed, or refused with its number. Where its fields stand is found once. The
 // seal is checked under settings that the inner function is given; that they are the ones the slip names is the outer one's doing.
+// And a lot slip written: nothing is put into the room before the last test.
 ghost use mathlib.Core.Path.{_≡_};
+ghost use Prim.Native.Nat.{_≤_, _<_};
+ghost use lib.ListN.{length, take};
 ghost use Rattle.bits.specs.Choice.{firstOf};
-ghost use Rattle.fields.specs.Layout.{placesOf, layoutFaults};
+ghost use Rattle.fields.specs.Layout.{placesOf, covered, layoutFaults};
 ghost use Rattle.slip.specs.Slip.{contentsOf, refusedSlip, readUnder, readOf};
 ghost use Rattle.slip.specs.Part.{seen, lotPart, lotPartIn};
+ghost use Rattle.mac.specs.Tag.{bytesFor};
+ghost use Rattle.writing.specs.Writing.{said};
+ghost use Rattle.slip.specs.Printed.{sealedBy, unwrittenSlip, sealHead, putOf, writeUnder, writeOf};
 
 // What a slip says: the expiry, the amount in microlitres, and where in the slip the lot lies.
 pub struct Contents {
@@ -120,4 +126,106 @@ pub fn lot<'a>(slip: &'a [u8], keys: &[u8]) -> &'a [u8]
     let read = read(slip, keys);
     let contents = read.contents;
     lot_in(slip, contents)
+}
+
+// ---- written
+
+// What was written. Accepted: number 0, the slip's length in bytes and the cipher calls of its seal. Refused: the number, and zeros.
+#[repr(C)]
+pub struct Written {
+    pub number: usize,
+    pub length: usize,
+    pub calls: usize,
+}
+
+fn unwritten(number: usize) -> Written
+    ensures { λ r. ⌜ r ≡ unwrittenSlip number ⌝ }
+{
+    Written {
+        number,
+        length: 0,
+        calls: 0,
+    }
+}
+
+// The bytes of field 7F before a tag of so many bytes: its label, its length, high byte first, algorithm, padding and m.
+fn seal_head(agreed: settings::Agreement, bytes: usize) -> [u8; 6]
+    requires { ⌜ (agreed .algorithm < 256) × (agreed .padding < 256) × (agreed .m < 256) × (bytes < 256) ⌝ }
+    ensures { λ r. ⌜ r ≡ sealHead agreed bytes ⌝ }
+{
+    let value = 3 + bytes;
+    [
+        fields::SEAL_ROW.label as u8,
+        (value / 256) as u8,
+        (value % 256) as u8,
+        agreed.algorithm as u8,
+        agreed.padding as u8,
+        agreed.m as u8,
+    ]
+}
+
+// Puts the slip of the covered bytes and the tag's first bytes into the room; or 10.
+fn put_slip(
+    agreed: settings::Agreement,
+    front: &[u8],
+    tag: [u8; 16],
+    calls: usize,
+    room: &mut [u8],
+) -> Written
+    requires { ⌜ (agreed .algorithm < 256) × (agreed .padding < 256) × (agreed .m ≤ 128) × (length (now front) ≤ 53) ⌝ }
+    ensures { λ r. ⌜ (r, now (room .exit)) ≡ putOf (sealedBy agreed (now (front .entry)) (take (bytesFor (agreed .m)) tag)) calls (now (room .entry)) ⌝ }
+{
+    let bytes = message::bytes_for(agreed.m);
+    let seal_at = front.len();
+    let tag_at = seal_at + 6;
+    let length = tag_at + bytes;
+    if room.len() < length {
+        return unwritten(10);
+    }
+    let head = seal_head(agreed, bytes);
+    block::put_part(front, room);
+    block::put_part(&head, &mut room[seal_at..]);
+    block::put(tag, bytes, &mut room[tag_at..]);
+    Written {
+        number: 0,
+        length,
+        calls,
+    }
+}
+
+// The slip of bytes that its seal covers to their last; or 1 to 6, then 10.
+fn write_under(agreed: settings::Agreement, keys: &[u8], front: &[u8], room: &mut [u8]) -> Written
+    requires { ⌜ (covered (now front) ≡ now front) × (22 ≤ length (now front)) × (length (now front) ≤ 53) ⌝ }
+    ensures { λ r. ⌜ (r, now (room .exit)) ≡ writeUnder agreed (now (keys .entry)) (now (front .entry)) (now (room .entry)) ⌝ }
+{
+    let mut tag = [0u8; 16];
+    let answer = tag::make(agreed, keys, front, 8 * front.len(), &mut tag);
+    match answer {
+        settings::Outcome::Refused(number) => unwritten(number),
+        settings::Outcome::Made(calls) => put_slip(agreed, front, tag, calls, room),
+        _ => unwritten(0),
+    }
+}
+
+// Writes the slip of a date, a lot and an amount into the room, sealed under what was agreed.
+pub fn write(
+    agreement: settings::Agreement,
+    keys: &[u8],
+    year: usize,
+    month: usize,
+    day: usize,
+    lot: &[u8],
+    amount: usize,
+    room: &mut [u8],
+) -> Written
+    ensures { λ r. ⌜ (r, now (room .exit)) ≡ writeOf agreement (now (keys .entry)) (said year month day (now (lot .entry)) amount) (now (room .entry)) ⌝ }
+{
+    let front = writing::lay_out(year, month, day, lot, amount);
+    let no = front.refusal;
+    if no != 0 {
+        return unwritten(no);
+    }
+    let count = front.count;
+    let bytes = front.bytes;
+    write_under(agreement, keys, &bytes[..count], room)
 }

@@ -1,3 +1,4 @@
 pub mod Crossing
 pub mod Runs
+pub mod Slips
 pub mod Unique

@@ -15,6 +15,8 @@ use Rattle.slipseal.proofs.slipseal_finish.Kinds as finish-k
 use Rattle.slipseal.proofs.slipseal_finish.Reads as slipseal-finish
 use Rattle.slipseal.proofs.slipseal_read.Kinds as read-k
 use Rattle.slipseal.proofs.slipseal_read.Reads as slipseal-read
+use Rattle.slipseal.proofs.slipseal_write.Kinds as write-k
+use Rattle.slipseal.proofs.slipseal_write.Reads as slipseal-write
 
 pub make-unique : Unique make-k.ps make-k.r slipseal-make.Asked slipseal-make.Learnt
 make-unique κs a g p x y = let e = same (x .ensures) (y .ensures) in (λ i. e i .0, λ i. (tt, (tt, (tt, (tt, (e i .1, tt))))))
@@ -33,3 +35,6 @@ finish-unique κs a g p x y = let e = same (x .ensures) (y .ensures) in (λ i. e
 
 pub read-unique : Unique read-k.ps read-k.r slipseal-read.Asked slipseal-read.Learnt
 read-unique κs a g p x y = (same (x .ensures) (y .ensures), refl)
+
+pub write-unique : Unique write-k.ps write-k.r slipseal-write.Asked slipseal-write.Learnt
+write-unique κs a g p x y = let e = same (x .ensures) (y .ensures) in (λ i. e i .0, λ i. (tt, (tt, (tt, (tt, (tt, (tt, (tt, (e i .1, tt)))))))))

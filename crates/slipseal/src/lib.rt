@@ -4,6 +4,8 @@ ghost use mathlib.Core.Path.{_≡_};
 ghost use Rattle.tag.specs.OneCall.{makeOf, checkOf};
 ghost use Rattle.session.specs.Calls.{startOf, pieceOf, finishOf};
 ghost use Rattle.slip.specs.Slip.{readOf};
+ghost use Rattle.slip.specs.Printed.{writeOf};
+ghost use Rattle.writing.specs.Writing.{said};
 ghost use Rattle.slipseal.specs.Border.{toldOf, toldMake, toldSlip, phaseFrom, phaseNumber, partNumber, inward, outward, handedOut, handedBack, finishedBack};
 
 // number: 0, or the refusal's. yes: 1 for a made tag, a good finish and a checked yes, else 0.
@@ -263,4 +265,20 @@ pub extern "C" fn slipseal_read(slip: &[u8], keys: &[u8]) -> Slip
     ensures { λ r. ⌜ r ≡ toldSlip (readOf (now (slip .entry)) (now (keys .entry))) ⌝ }
 {
     told_slip(slip::read(slip, keys))
+}
+
+#[no_mangle]
+pub extern "C" fn slipseal_write(
+    agreement: settings::Agreement,
+    keys: &[u8],
+    year: usize,
+    month: usize,
+    day: usize,
+    lot: &[u8],
+    amount: usize,
+    room: &mut [u8],
+) -> slip::Written
+    ensures { λ r. ⌜ (r, now (room .exit)) ≡ writeOf agreement (now (keys .entry)) (said year month day (now (lot .entry)) amount) (now (room .entry)) ⌝ }
+{
+    slip::write(agreement, keys, year, month, day, lot, amount, room)
 }

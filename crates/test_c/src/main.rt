@@ -1,6 +1,6 @@
 // The functions for C, each called as C calls it: a tag is made and checked; a session is started, fed, tried too early and with too
-// little room, and finished; a struct whose phase is none of the three comes back as it came; a slip is read. Every answer is known
-// beforehand (docs/ARCHITECTURE.md, "Tests").
+// little room, and finished; a struct whose phase is none of the three comes back as it came; a slip is read; the same slip is written,
+// and refused a room that is a byte too small. Every answer is known beforehand (docs/ARCHITECTURE.md, "Tests").
 const KEYS: [u8; 32] = *b"\
     \x01\x23\x45\x67\x89\xab\xcd\xef\xfe\xdc\xba\x98\x76\x54\x32\x10\
     \x41\x49\xd2\xad\xed\x94\x56\x68\x1e\xc8\xb5\x11\xd9\xe7\xee\x04";
@@ -16,6 +16,7 @@ fn main() {
     let slip = SLIP;
     read(&slip, &keys[0..16]);
     read(&slip, &keys[16..]);
+    write(&keys[0..16]);
 }
 
 fn number(n: usize) {
@@ -141,4 +142,27 @@ fn read(slip: &[u8], key: &[u8]) {
     number(answer.lot_at);
     number(answer.lot_len);
     print(b"\n");
+}
+
+// The slip into a room of a byte more, and into one of a byte less.
+fn write(key: &[u8]) {
+    let mut room = [0xEEu8; 38];
+    write_into(key, &mut room);
+    let mut short = [0xEEu8; 36];
+    write_into(key, &mut short);
+}
+
+fn write_into(key: &[u8], room: &mut [u8]) {
+    let agreed = settings::Agreement {
+        algorithm: 5,
+        padding: 4,
+        m: 64,
+    };
+    let answer = slipseal::slipseal_write(agreed, key, 2026, 11, 4, b"A7", 500, room);
+    print(b"write:");
+    number(answer.number);
+    number(answer.length);
+    number(answer.calls);
+    print(b"\n");
+    bytes(room);
 }

@@ -81,7 +81,12 @@ pub(crate) fn print_room(answer: settings::Outcome, size: usize, room: &[u8]) {
         words::print_bytes(words::first(room, size));
         return;
     }
-    if check::same(room, &[0xEEu8; 32]) {
+    print_kept(room, &[0xEEu8; 32]);
+}
+
+// Whether each byte of a room is still what it was.
+pub(crate) fn print_kept(room: &[u8], before: &[u8]) {
+    if check::same(room, before) {
         print(b" untouched");
         return;
     }

@@ -15,22 +15,25 @@
 //     changed KEYS SLIP                   the slip with each byte changed to every other value: how many are accepted, and how many get
 //                                         which refusal (31: one with values)
 //     prefixes KEYS SLIP                  the same for every beginning that is shorter than the slip
+//     write A P M KEYS YEAR MONTH DAY LOT AMOUNT ROOM   written LENGTH bytes CALLS calls and the room's bytes; or refused N, "with values"
+//                                         where length or calls are not 0, and whether the room is untouched
 //
 // Numbers are decimal and below 2^64. Bytes are hex digits, at most 4096 bytes, and - is no bytes. ROOM is a number of bytes up to
-// 32, each EE before the call. The commands from start to same act on one session, closed and zero at the text's first line, and
-// print its phase after their answer; PHASE is 0 closed, 1 at a byte edge, 2 after a part byte of PART bits. A line whose first word
-// is # is printed alone. No other line is looked for: tests/make-runs stores none that the reference cannot read.
+// 32, of write up to 96, each EE before the call. The commands from start to same act on one session, closed and zero at the text's
+// first line, and print its phase after their answer; PHASE is 0 closed, 1 at a byte edge, 2 after a part byte of PART bits. A line
+// whose first word is # is printed alone. No other line is looked for: tests/make-runs stores none that the reference cannot read.
 mod calls;
 mod halves;
 mod sessions;
 mod slips;
 mod words;
+mod writes;
 
 use words::print;
 
 // The commands, in the order of their numbers; 0 is a remark.
-const NAMES: [u8; 77] =
-    *b"# make check halves slip changed prefixes start piece zeros finish forge same";
+const NAMES: [u8; 83] =
+    *b"# make check halves slip changed prefixes write start piece zeros finish forge same";
 
 pub(crate) const CHECK: usize = 2;
 
@@ -40,15 +43,17 @@ pub(crate) const SLIP: usize = 4;
 
 pub(crate) const CHANGED: usize = 5;
 
-pub(crate) const START: usize = 7;
+pub(crate) const WRITE: usize = 7;
 
-pub(crate) const PIECE: usize = 8;
+pub(crate) const START: usize = 8;
 
-pub(crate) const ZEROS: usize = 9;
+pub(crate) const PIECE: usize = 9;
 
-pub(crate) const FINISH: usize = 10;
+pub(crate) const ZEROS: usize = 10;
 
-pub(crate) const SAME: usize = 12;
+pub(crate) const FINISH: usize = 11;
+
+pub(crate) const SAME: usize = 13;
 
 fn main() {
     let count = os::arg_count();
@@ -103,8 +108,12 @@ fn answered(kind: usize, line: &[u8], state: sessions::State) -> sessions::State
         calls::command(kind, line);
         return state;
     }
-    if kind < START {
+    if kind < WRITE {
         slips::command(kind, line);
+        return state;
+    }
+    if kind < START {
+        writes::command(line);
         return state;
     }
     sessions::command(kind, line, state)

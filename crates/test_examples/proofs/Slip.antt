@@ -1,5 +1,5 @@
 -- A whole slip under a key, read by the definition: 4 November 2026, lot A7, 500 microlitres, sealed by algorithm 5 with a tag of 64
--- bits. So the theorems about accepted slips are about something.
+-- bits. So the theorems about accepted slips are about something. And the same slip written by the definition, byte for byte.
 -- Assumes nothing.
 use mathlib.Core.Path.{_≡_, refl}
 use mathlib.Core.Bool.{xor}
@@ -23,6 +23,8 @@ use Rattle.fields.specs.Field.{outside, anyOutside, twoBytes, lengthOf, value, 
 use Rattle.fields.specs.Date.{digitAt, twoDigits, yearOf, monthOf, dayOf, days, leap, daysIn, dateWrong}
 use Rattle.fields.specs.Layout.{lotAt, amountAt, sealAt, lotField, amountField, sealField, covered, amountOf, expiryFaults, lotFaults, amountFaults, sealFaults, layoutFaults}
 use Rattle.slip.specs.Slip.{agreementNamed, tagNamed, sealDefined, sealCalls, sealWrong, faultsUnder, contentsOf, acceptedSlip, readUnder, readOf}
+use Rattle.writing.specs.Writing.{said, digitOf, expiryValue, amountValue, coveredOf}
+use Rattle.slip.specs.Printed.{sealedBy, slipOf}
 use Rattle.slip.proofs.Borders.{coveredP12}
 
 abbrev pub key : List ℕ
@@ -34,3 +36,7 @@ sealed = coveredP12 ++ (0x7f ∷ 0x00 ∷ 0x0b ∷ 5 ∷ 4 ∷ 64 ∷ 0xa4 ∷ 0
 pub accepted-example : readOf sealed key ≡ record { number = 0; calls = 3; contents = record { year = 2026; month = 11; day = 4; amount = 500; «lot_at» = 14; «lot_len» = 2 } }
 unfolding pick firstOf bitsN digit numOf bytesBits flatMap words zeros xorB zipWith xor sameBytes rotl leftmost filled shiftl double halvesFlipped everySecond front sbox FK ck CK CKs quad flat four Sbox τ L L′ T T′ F round rounds made R enc roundKeys encrypted cipherAt methodAt complete gap oneGap prefix suffix pad D algorithmAt step steps some H G mac tagOf callsOf bitsOf bytesFor byteGroups tagBytes keysOf settingsFaults algorithmWrong paddingWrong sizeWrong keyBytes keyBytesWrong keysSame keysWeak tagLengthWrong tagAt callsAt outside anyOutside twoBytes lengthOf value endOf fieldFaults digitAt twoDigits yearOf monthOf dayOf days leap daysIn dateWrong lotAt amountAt sealAt lotField amountField sealField covered amountOf expiryFaults lotFaults amountFaults sealFaults layoutFaults agreementNamed tagNamed sealDefined sealCalls sealWrong faultsUnder contentsOf acceptedSlip readUnder readOf
 accepted-example = refl
+
+pub written-example : slipOf (record { algorithm = 5; padding = 4; m = 64 }) key (said 2026 11 4 (0x41 ∷ 0x37 ∷ []) 500) ≡ sealed
+unfolding pick bitsN digit numOf bytesBits flatMap words zeros xorB zipWith xor rotl leftmost filled shiftl double halvesFlipped everySecond front sbox FK ck CK CKs quad flat four Sbox τ L L′ T T′ F round rounds made R enc roundKeys encrypted cipherAt methodAt complete gap oneGap prefix suffix pad D algorithmAt step steps some H G mac tagOf callsOf bitsOf bytesFor byteGroups tagBytes keysOf tagAt callsAt twoBytes lengthOf endOf lotAt amountAt sealAt covered sealDefined sealCalls digitOf expiryValue amountValue coveredOf sealedBy slipOf
+written-example = refl

@@ -9,3 +9,4 @@ pub mod library;
 pub mod run;
 pub mod sessions;
 pub mod slips;
+pub mod writes;

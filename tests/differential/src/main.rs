@@ -1,10 +1,11 @@
 //! differential [SEED [COUNT]]: compares the proved library with the reference on COUNT pseudo-random cases, half of them one
-//! call, a quarter sessions, a quarter slips; then on one slip of each algorithm and padding cut and changed everywhere, and on
-//! the longest message. differential SEED KIND INDEX runs one case again (call, session, slip, every, border).
+//! call, a quarter sessions, a quarter slips, and on a quarter as many again, slips that are written; then on one slip of each
+//! algorithm and padding cut and changed everywhere, on the longest message, and on slips written with every m and at the borders of
+//! every field. differential SEED KIND INDEX runs one case again (call, session, slip, write, every, border, rooms, values).
 //! Ends with status 1 at the first difference, and where, in 10,000 cases or more, an answer that can arise came too seldom.
 
 use differential::run::Run;
-use differential::{border, calls, sessions, slips};
+use differential::{border, calls, sessions, slips, writes};
 use reference::cases::Random;
 use reference::mac::padding_fits;
 use std::time::Instant;
@@ -12,22 +13,30 @@ use std::time::Instant;
 const SEED: u64 = 20_261_104;
 const COUNT: u64 = 400_000;
 
-/// The answers that can arise, of each function.
-const ANSWERS: [(&str, &[&str]); 6] = [
+/// The answers that can arise, of each function; a slip that was written is read back, and one that was accepted written again.
+const ANSWERS: [(&str, &[&str]); 9] = [
     ("make", &["0", "1", "2", "3", "4", "5", "7", "8", "9", "10"]),
     ("check", &["yes", "no", "1", "2", "3", "4", "5", "7", "8", "9", "10"]),
     ("start", &["0", "1", "2", "3", "4", "5", "8"]),
     ("piece", &["0", "11", "7", "8", "12"]),
     ("finish", &["0", "11", "12", "9", "10"]),
     ("read", &["0", "20", "21", "22", "23", "24", "1", "2", "3", "4", "5", "10", "30"]),
+    ("write", &["0", "22", "23", "1", "2", "3", "4", "5", "10"]),
+    ("back", &["0"]),
+    ("again", &["0"]),
 ];
 
-const KINDS: [&str; 5] = ["call", "session", "slip", "every", "border"];
+/// A kind's place goes into the draws of its cases.
+const KINDS: [&str; 8] = ["call", "session", "slip", "every", "border", "write", "rooms", "values"];
 
 /// The algorithms, each with each of its paddings.
 fn pairs() -> Vec<[u64; 2]> {
     let all = (1..=8).flat_map(|a| (1..=4).map(move |p| [a, p]));
     all.filter(|[a, p]| padding_fits(*a, *p)).collect()
+}
+
+fn place(kind: &str) -> Option<usize> {
+    KINDS.iter().position(|other| *other == kind)
 }
 
 fn case(run: &mut Run, seed: u64, kind: usize, index: u64) {
@@ -39,13 +48,16 @@ fn case(run: &mut Run, seed: u64, kind: usize, index: u64) {
         "session" => sessions::case(r, run),
         "slip" => slips::case(r, run),
         "every" => slips::every(r, run, pairs()[index as usize % pairs().len()]),
+        "write" => writes::case(r, run),
+        "rooms" => writes::rooms(r, run, pairs()[index as usize % pairs().len()]),
+        "values" => writes::values(r, run),
         _ if index == 0 => border::known(r, run),
         _ => border::case(r, run, pairs()[(index as usize - 1) % pairs().len()]),
     }
 }
 
 /// The answers that make up a thousandth of their function's calls or less. It is asked after the pseudo-random cases, for those that
-/// go through every byte or stand at the border come out the same whatever the seed.
+/// go through every byte, every m or every day, or stand at the border, come out the same whatever the seed.
 fn too_seldom(run: &Run) -> Vec<String> {
     let mut seldom = Vec::new();
     for (function, answers) in ANSWERS {
@@ -61,13 +73,16 @@ fn whole(run: &mut Run, seed: u64, count: u64) -> bool {
     let pairs = pairs().len() as u64;
     let (mut cases, mut seldom) = (0, Vec::new());
     println!("seed {seed}");
-    for (kind, share) in [count / 2, count / 4, count / 4, pairs, 1 + pairs].into_iter().enumerate() {
+    let drawn = [("call", count / 2), ("session", count / 4), ("slip", count / 4), ("write", count / 4)];
+    let fixed = [("every", pairs), ("border", 1 + pairs), ("rooms", pairs), ("values", 1)];
+    for (name, share) in drawn.into_iter().chain(fixed) {
         let (from, before) = (Instant::now(), run.calls());
+        let kind = place(name).expect("a kind");
         (0..share).for_each(|index| case(run, seed, kind, index));
         cases += share;
         let (calls, seconds) = (run.calls() - before, from.elapsed().as_secs_f64());
-        println!("{:8} {share:7} cases, {calls:8} calls compared, {seconds:5.1} s", KINDS[kind]);
-        if KINDS[kind] == "slip" {
+        println!("{name:8} {share:7} cases, {calls:8} calls compared, {seconds:5.1} s");
+        if name == "write" {
             seldom = too_seldom(run);
         }
     }
@@ -90,7 +105,7 @@ fn whole(run: &mut Run, seed: u64, count: u64) -> bool {
 fn main() {
     let words: Vec<String> = std::env::args().skip(1).collect();
     let number = |i: usize, default: u64| words.get(i).map_or(Some(default), |word| word.parse::<u64>().ok());
-    let kind = words.get(1).and_then(|word| KINDS.iter().position(|kind| kind == word));
+    let kind = words.get(1).and_then(|word| place(word));
     let mut run = Run::new();
     match (number(0, SEED), kind, number(1, COUNT), number(2, 0)) {
         (Some(seed), Some(kind), _, Some(index)) => {
@@ -103,9 +118,7 @@ fn main() {
             }
         }
         _ => {
-            eprintln!(
-                "differential [SEED [COUNT]]    differential SEED call|session|slip|every|border INDEX"
-            );
+            eprintln!("differential [SEED [COUNT]]    differential SEED {} INDEX", KINDS.join("|"));
             std::process::exit(2);
         }
     }

@@ -3,6 +3,7 @@
 
 use crate::library;
 use reference::session::{self, Record};
+use reference::slip::{self, Says, Slip, Written};
 use reference::{hex, Agreement, Answer};
 use std::collections::BTreeMap;
 use std::fmt::Debug;
@@ -13,7 +14,8 @@ const GUARD: usize = 8;
 pub struct Run {
     /// The words that repeat the case at hand.
     pub case: String,
-    /// Of each function, how often each number was answered; a checked "yes" and "no" stand apart.
+    /// Of each function, how often each number was answered; a checked "yes" and "no" stand apart, and so do the slips that are read
+    /// because they were written ("back") and written because they were read ("again").
     pub answers: BTreeMap<&'static str, BTreeMap<String, u64>>,
     /// Sessions whose tag and calls were those of one call.
     pub joined: u64,
@@ -160,12 +162,66 @@ impl Run {
         (want.0, want.1, theirs.inner().to_vec())
     }
 
-    pub fn read(&mut self, slip: &[u8], keys: &[u8]) -> u64 {
+    pub fn read(&mut self, slip: &[u8], keys: &[u8]) -> Slip {
+        self.reading("read", slip, keys)
+    }
+
+    /// Reads a slip that was written.
+    pub fn read_back(&mut self, slip: &[u8], keys: &[u8]) -> Slip {
+        self.reading("back", slip, keys)
+    }
+
+    fn reading(&mut self, function: &'static str, slip: &[u8], keys: &[u8]) -> Slip {
         let got = library::read(slip, keys);
-        let want = reference::slip::read(slip, keys);
+        let want = slip::read(slip, keys);
         self.same(&got, &want, || format!("slip {} {}", word(keys), word(slip)));
-        self.count("read", want.number.to_string());
-        want.number
+        self.count(function, want.number.to_string());
+        want
+    }
+
+    /// The answer, and the bytes of the room.
+    pub fn write(
+        &mut self,
+        agreement: Agreement,
+        keys: &[u8],
+        says: &Says,
+        room: Room,
+    ) -> (Written, Vec<u8>) {
+        self.writing("write", agreement, keys, says, room)
+    }
+
+    /// Writes what was read from a slip.
+    pub fn write_again(
+        &mut self,
+        agreement: Agreement,
+        keys: &[u8],
+        says: &Says,
+        room: Room,
+    ) -> (Written, Vec<u8>) {
+        self.writing("again", agreement, keys, says, room)
+    }
+
+    fn writing(
+        &mut self,
+        function: &'static str,
+        agreement: Agreement,
+        keys: &[u8],
+        says: &Says,
+        room: Room,
+    ) -> (Written, Vec<u8>) {
+        let (mut ours, mut theirs) = (room.clone(), room);
+        let size = ours.inner().len();
+        let got = library::write(agreement, keys, says, ours.inner());
+        let want = slip::write(agreement, keys, says, theirs.inner());
+        let line = || {
+            let Says { year, month, day, lot, amount } = says;
+            let settings = format!("{} {}", words(agreement), word(keys));
+            format!("write {settings} {year} {month} {day} {} {amount} {size}", word(lot))
+        };
+        self.same(&got, &want, line);
+        self.same(&ours.bytes, &theirs.bytes, || format!("{} (room)", line()));
+        self.count(function, want.number.to_string());
+        (want, theirs.inner().to_vec())
     }
 }
 

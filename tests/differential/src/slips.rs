@@ -1,8 +1,10 @@
 //! Lot slips: whole ones under every algorithm, cut, lengthened, changed in a byte or a bit, with fields left out, doubled or
-//! exchanged, under other keys, and bytes that are no slip. One slip of each kind is cut everywhere and changed everywhere.
+//! exchanged, under other keys, and bytes that are no slip. One slip of each kind is cut everywhere and changed everywhere. A slip
+//! that is accepted is written again.
 
 use crate::draw::{once_in, Settings};
 use crate::run::Run;
+use crate::writes::again;
 use reference::cases::{draw_slip, Random};
 use reference::padding::bytes_for;
 use reference::Agreement;
@@ -55,7 +57,16 @@ pub fn case(r: &mut Random, run: &mut Run) {
         2..=4 => changed(r),
         _ => exchanged(r),
     };
-    run.read(&slip, &keys);
+    read(r, run, &slip, &keys);
+}
+
+/// The number that a slip gets; one that is accepted is written again.
+fn read(r: &mut Random, run: &mut Run, slip: &[u8], keys: &[u8]) -> u64 {
+    let read = run.read(slip, keys);
+    if read.number == 0 {
+        again(r, run, slip, keys, &read);
+    }
+    read.number
 }
 
 /// Bytes that are no slip, or begin like one.
@@ -120,18 +131,18 @@ pub fn every(r: &mut Random, run: &mut Run, [algorithm, padding]: [u64; 2]) {
     s.agreement.padding = padding;
     let mut part = covered(r).concat();
     let mut slip = [&part[..], &seal(&s, &part)].concat();
-    while run.read(&slip, &s.keys) != 0 {
+    while read(r, run, &slip, &s.keys) != 0 {
         part = covered(r).concat();
         slip = [&part[..], &seal(&s, &part)].concat();
     }
     for length in 0..slip.len() {
-        run.read(&slip[..length], &s.keys);
+        read(r, run, &slip[..length], &s.keys);
     }
     for place in 0..slip.len() {
         let was = slip[place];
         for turned in 1..=255 {
             slip[place] = was ^ turned;
-            run.read(&slip, &s.keys);
+            read(r, run, &slip, &s.keys);
         }
         slip[place] = was;
     }
@@ -142,7 +153,7 @@ pub fn every(r: &mut Random, run: &mut Run, [algorithm, padding]: [u64; 2]) {
     for m in 0..=129 {
         for size in [1, bytes_for(m), bytes_for(m) + 1].map(|size| size.clamp(1, 16) as usize) {
             let value = [&[algorithm as u8, padding as u8, m as u8], &tag[..size]].concat();
-            run.read(&[&part[..], &field(0x7F, &value)].concat(), &s.keys);
+            read(r, run, &[&part[..], &field(0x7F, &value)].concat(), &s.keys);
         }
     }
 }

@@ -1,5 +1,5 @@
-//! Deterministic pseudo-random draws for comparing two implementations: settings and slips. Numbers are unsigned, 64 bits, and
-//! wrap; long constants are hexadecimal; the tables stand below.
+//! Deterministic pseudo-random draws for comparing two implementations: settings, slips to be read and slips to be written. Numbers
+//! are unsigned, 64 bits, and wrap; long constants are hexadecimal; the tables stand below.
 //!
 //! # The draws (xorshift64*)
 //!
@@ -42,15 +42,27 @@
 //! 8. by below(12): 0: cut to below(length + 1) bytes; 1: one byte below(256) put after;
 //!    2: i = below(length), then byte i becomes below(256); 3: i = below(length), then byte i xor
 //!    1 << below(8); 4: the last byte xor 1 << below(8); else nothing.
+//!
+//! # A slip to be written
+//!
+//! 1. Settings; again, while they get one of 1 to 6 and then below(3) is not 0. 2. to 5. as of a slip.
+//! 6. by below(24): 0, 1: i = below(lot length, or 1 if that is 0), then lot byte i, if there is one, becomes
+//!    below(256) with 0 and EDGES[below(8)] with 1; else nothing.
+//! 7. by below(32): 0: year, 1: month, 2: day, 3: amount plus 1 << WIDE[below(8)]; else nothing.
+//! 8. size of the room, length = 27 + lot length + size(m); by below(12): 0: length - 1; 1: below(length);
+//!    2: length + 1 + below(8); else length.
 
-use crate::call::{make, Agreement};
+use crate::call::{make, settings_refusal, Agreement};
 use crate::mac::{m_limit, two_keys};
 use crate::padding::bytes_for;
+use crate::slip::Says;
 
 pub const FAR: [u64; 8] = [0, 9, 129, 257, (1 << 32) + 1, (1 << 32) + 64, (1 << 63) + 8, u64::MAX];
 pub const BITS: [u64; 8] =
     [8_388_608, 8_388_609, 1 << 32, (1 << 32) + 8, 1 << 63, u64::MAX - 7, u64::MAX - 6, u64::MAX];
 pub const AMOUNTS: [u64; 8] = [0, 1, 255, 65_536, 999_999, 1_000_000, 1_000_001, 0xFFFF_FFFF];
+pub const EDGES: [u64; 8] = [0x00, 0x20, 0x21, 0x7E, 0x7F, 0x80, 0xA1, 0xFF];
+pub const WIDE: [u64; 8] = [8, 16, 24, 31, 32, 33, 48, 63];
 
 pub struct Random {
     state: u64,
@@ -151,11 +163,8 @@ impl Settings {
     }
 }
 
-/// A slip and the settings whose keys it is read under.
-pub fn draw_slip(r: &mut Random) -> (Vec<u8>, Settings) {
-    let mut s = Settings::draw(r);
-    let [algorithm, padding, m] = s.words().map(|number| number % 256);
-    s.agreement = Agreement { algorithm, padding, m };
+/// Date, lot and amount.
+fn draw_says(r: &mut Random) -> Says {
     let (year, month, day) = match r.below(8) {
         0 => (1990 + r.below(120), r.below(14), r.below(33)),
         1 => (2000 + r.below(100), 2, 28 + r.below(3)),
@@ -165,14 +174,20 @@ pub fn draw_slip(r: &mut Random) -> (Vec<u8>, Settings) {
         0 => r.below(35),
         _ => 1 + r.below(32),
     };
-    let mut lot = [0; 34];
-    for byte in &mut lot[..lot_count as usize] {
-        *byte = 33 + r.below(94) as u8;
-    }
+    let lot = (0..lot_count).map(|_| 33 + r.below(94) as u8).collect();
     let amount = match r.below(8) {
         0 => r.one_of(&AMOUNTS),
         _ => 1 + r.below(1_000_000),
     };
+    Says { year, month, day, lot, amount }
+}
+
+/// A slip and the settings whose keys it is read under.
+pub fn draw_slip(r: &mut Random) -> (Vec<u8>, Settings) {
+    let mut s = Settings::draw(r);
+    let [algorithm, padding, m] = s.words().map(|number| number % 256);
+    s.agreement = Agreement { algorithm, padding, m };
+    let Says { year, month, day, lot, amount } = draw_says(r);
     let tag_count = match r.below(16) {
         0 => s.tag_size() - 1,
         1 => s.tag_size() + 1,
@@ -181,8 +196,8 @@ pub fn draw_slip(r: &mut Random) -> (Vec<u8>, Settings) {
 
     let mut slip = vec![1, 0, 8];
     slip.extend(format!("{year:04}{month:02}{day:02}").bytes());
-    slip.extend([2, 0, lot_count as u8]);
-    slip.extend(&lot[..lot_count as usize]);
+    slip.extend([2, 0, lot.len() as u8]);
+    slip.extend(lot);
     slip.extend([3, 0, 4]);
     slip.extend((amount as u32).to_be_bytes());
     let mut tag = [0xA5; 17];
@@ -206,4 +221,34 @@ pub fn draw_slip(r: &mut Random) -> (Vec<u8>, Settings) {
         _ => (),
     }
     (slip, s)
+}
+
+/// Settings, what a slip is to say, and the size of the room for it.
+pub fn draw_write(r: &mut Random) -> (Settings, Says, usize) {
+    let mut s = Settings::draw(r);
+    while settings_refusal(s.agreement, s.keys()) != 0 && r.below(3) != 0 {
+        s = Settings::draw(r);
+    }
+    let mut says = draw_says(r);
+    let kind = r.below(24);
+    if kind < 2 {
+        let place = r.below(says.lot.len().max(1) as u64) as usize;
+        let byte = if kind == 0 { r.below(256) } else { r.one_of(&EDGES) };
+        if let Some(at) = says.lot.get_mut(place) {
+            *at = byte as u8;
+        }
+    }
+    let kind = r.below(32);
+    if kind < 4 {
+        let Says { year, month, day, amount, .. } = &mut says;
+        *[year, month, day, amount][kind as usize] += 1 << r.one_of(&WIDE);
+    }
+    let length = 27 + says.lot.len() as u64 + s.tag_size();
+    let room = match r.below(12) {
+        0 => length - 1,
+        1 => r.below(length),
+        2 => length + 1 + r.below(8),
+        _ => length,
+    };
+    (s, says, room as usize)
 }

@@ -1,5 +1,5 @@
-//! Plain reference of document 01: SM4, the four paddings and the eight algorithms of GB/T 15852.1
-//! (approval draft), one-call making and checking, sessions by pieces, and lot slips.
+//! Plain reference of document 01 and of 02 §1: SM4, the four paddings and the eight algorithms of GB/T 15852.1
+//! (approval draft), one-call making and checking, sessions by pieces, and lot slips, read and written.
 //! Written from the documents alone, to produce expected outputs and to compare with.
 //!
 //! Programs, for tests/make-runs: `commands` (generated command lines), `answer` (answers to command lines).

@@ -1,10 +1,10 @@
 //! Annex A of 000, the borders and runs of document 01, the appendix runs R3 to R7 of the requirements,
-//! the order of refusals, forged records, and slips.
+//! the order of refusals, forged records, and slips, read and written.
 
 use crate::call::LIMIT;
-use crate::cases::{Random, Settings};
+use crate::cases::{draw_slip, draw_write, Random, Settings};
 use crate::session::{finish, piece, start, Record};
-use crate::slip::{self as slips, read, Slip};
+use crate::slip::{self as slips, read, write, Says, Slip, Written};
 use crate::{check, hex, mac, make, padding, sm4, unhex, Agreement, Answer};
 
 const K: &str = "0123456789ABCDEFFEDCBA9876543210";
@@ -612,5 +612,214 @@ fn slips_changed_and_cut() {
         assert_eq!(changed.values().sum::<u64>(), 255 * slip.len() as u64);
         assert_eq!(changed.contains_key(&0), open);
         assert_eq!(slips::prefixes(&slip, &h(K)), [(20, slip.len() as u64)].into());
+    }
+}
+
+/// A call to `write`: into a room of so many bytes.
+#[derive(Clone)]
+struct Print {
+    agreement: Agreement,
+    keys: Vec<u8>,
+    says: Says,
+    room: usize,
+}
+
+impl Print {
+    /// P12's fields, into a room that the slip just fills where m is 64.
+    fn p12(agreement: Agreement, keys: &str) -> Print {
+        let says = Says { year: 2026, month: 11, day: 4, lot: b"A7".to_vec(), amount: 500 };
+        Print { agreement, keys: h(keys), says, room: 37 }
+    }
+
+    /// The same with something changed.
+    fn with(&self, change: impl Fn(&mut Print)) -> Print {
+        let mut other = self.clone();
+        change(&mut other);
+        other
+    }
+
+    /// The answer and the room, 5A before the call. A refusal must leave the room and report nothing; the count of a written slip
+    /// must be that of real calls, and the bytes past it must stay.
+    fn run(&self) -> (Written, Vec<u8>) {
+        let before = sm4::tests::CALLS.get();
+        let mut room = vec![0x5A; self.room];
+        let written = write(self.agreement, &self.keys, &self.says, &mut room);
+        match written.number {
+            0 => assert_eq!(sm4::tests::CALLS.get() - before, written.calls),
+            number => assert_eq!(written, Written { number, length: 0, calls: 0 }),
+        }
+        assert!(room[written.length as usize..].iter().all(|byte| *byte == 0x5A));
+        (written, room)
+    }
+
+    fn number(&self) -> u64 {
+        self.run().0.number
+    }
+}
+
+#[test]
+fn appendix_r6_written() {
+    let rows = [
+        (agreed(5, 4, 64), K, SEAL, 3),
+        (agreed(2, 2, 64), KK, "7F000B02024025BE21F5FDEE57F4", 3),
+        (agreed(1, 1, 12), K, "7F000501010CA330", 2),
+    ];
+    for (agreement, keys, seal, calls) in rows {
+        let slip = h(&[COVERED, seal].concat());
+        let length = slip.len();
+        for room in 0..length + 20 {
+            let (written, bytes) = Print { room, ..Print::p12(agreement, keys) }.run();
+            if room < length {
+                assert_eq!(written.number, 10, "room {room}");
+                continue;
+            }
+            assert_eq!(written, Written { number: 0, length: length as u64, calls });
+            assert_eq!(bytes[..length], slip);
+        }
+    }
+}
+
+/// 27 bytes, the lot and ⌈m/8⌉.
+#[test]
+fn lengths_of_written_slips() {
+    for (lot, m) in [(1, 1), (1, 8), (1, 9), (2, 64), (32, 127), (32, 128)] {
+        let mut one = Print { room: 75, ..Print::p12(agreed(5, 4, m), K) };
+        one.says.lot = vec![b'~'; lot];
+        let length = 27 + lot as u64 + m.div_ceil(8);
+        assert_eq!(
+            one.run().0,
+            Written { number: 0, length, calls: if lot == 1 || lot == 2 { 3 } else { 5 } }
+        );
+    }
+}
+
+#[test]
+fn write_refusals() {
+    let good = Print { room: 96, ..Print::p12(agreed(5, 4, 64), K) };
+    let lots: [(&[u8], u64); 12] = [
+        (b"!", 0),
+        (b"~", 0),
+        (&[b'x'; 32], 0),
+        (&[], 22),
+        (&[b'x'; 33], 22),
+        (&[b'x'; 256 + 2], 22),
+        (&[b'x'; 65_536 + 2], 22),
+        (b" ", 22),
+        (&[0x7F], 22),
+        (b"A7 ", 22),
+        (&[b'A', 0], 22),
+        (&[b'A', 0xC1, b'7'], 22),
+    ];
+    for (lot, number) in lots {
+        assert_eq!(good.with(|one| one.says.lot = lot.to_vec()).number(), number, "lot {}", hex(lot));
+    }
+    let wide = 1 << 32;
+    for amount in [1, 500, 1_000_000] {
+        assert_eq!(good.with(|one| one.says.amount = amount).number(), 0, "amount {amount}");
+    }
+    for amount in [0, 1_000_001, wide, wide + 500, (1 << 63) + 500, u64::MAX] {
+        assert_eq!(good.with(|one| one.says.amount = amount).number(), 22, "amount {amount}");
+    }
+    #[rustfmt::skip]
+    let dates = [
+        (2000, 1, 1, 0), (2099, 12, 31, 0), (2000, 2, 29, 0), (2024, 2, 29, 0), (2026, 4, 30, 0), (2026, 12, 31, 0),
+        (1999, 12, 31, 23), (2100, 1, 1, 23), (0, 1, 1, 23), (26, 11, 4, 23), (2023, 2, 29, 23), (2024, 2, 30, 23),
+        (2026, 4, 31, 23), (2026, 0, 1, 23), (2026, 13, 1, 23), (2026, 11, 0, 23), (2026, 1, 32, 23), (4, 11, 2026, 23),
+        (4_294_969_322, 11, 4, 23), (2026 + 65_536, 11, 4, 23), (2026, 11 + 256, 4, 23), (2026, 11 + wide, 4, 23),
+        (2026, 11, 4 + 256, 23), (2026, 11, 4 + wide, 23), (2026 + (1 << 63), 11, 4, 23), (2026, u64::MAX, 4, 23),
+    ];
+    for (year, month, day, number) in dates {
+        let one = good.with(|one| (one.says.year, one.says.month, one.says.day) = (year, month, day));
+        assert_eq!(one.number(), number, "{year} {month} {day}");
+    }
+    #[rustfmt::skip]
+    let settings = [
+        (0, 4, 64, 16, 1), (9, 4, 64, 16, 1), (5 + 256, 4, 64, 16, 1), (5 + wide, 4, 64, 16, 1),
+        (5, 0, 64, 16, 2), (5, 3, 64, 16, 2), (1, 4, 64, 16, 2), (5, 4 + 256, 64, 16, 2), (5, 4 + wide, 64, 16, 2),
+        (5, 4, 0, 16, 3), (5, 4, 129, 16, 3), (7, 4, 64, 16, 3), (5, 4, 64 + 256, 16, 3), (5, 4, 64 + wide, 16, 3),
+        (5, 4, 64, 0, 4), (5, 4, 64, 15, 4), (5, 4, 64, 17, 4), (5, 4, 64, 32, 4), (2, 1, 64, 16, 4), (2, 1, 64, 31, 4),
+        (7, 4, 63, 16, 0), (8, 4, 128, 16, 0), (2, 1, 64, 32, 0), (3, 1, 64, 32, 0),
+    ];
+    for (a, p, m, count, number) in settings {
+        let keys = h(KK)[..count].to_vec();
+        let one = Print { agreement: agreed(a, p, m), keys, ..good.clone() };
+        assert_eq!(one.number(), number, "{a} {p} {m} {count}");
+    }
+    let twisted = [h(K), mac::alternate(&block(K)).to_vec()].concat();
+    for (a, number, number_twisted) in [(2, 5, 0), (3, 0, 0), (4, 5, 5), (6, 5, 0)] {
+        let one = Print { agreement: agreed(a, 1, 64), ..good.clone() };
+        assert_eq!(Print { keys: [h(K), h(K)].concat(), ..one.clone() }.number(), number);
+        assert_eq!(Print { keys: twisted.clone(), ..one }.number(), number_twisted);
+    }
+}
+
+/// Every fault alone, and any two of them at once: the earlier one answers. 6 cannot arise.
+#[test]
+fn order_of_refusals_when_writing() {
+    let good = Print::p12(agreed(2, 1, 64), KK);
+    assert_eq!(good.run().0, Written { number: 0, length: 37, calls: 3 });
+    type Fault = (u64, fn(&mut Print));
+    let faults: [Fault; 10] = [
+        (22, |one| one.says.lot[1] = 0x20),
+        (22, |one| one.says.amount = 0),
+        (23, |one| one.says.day = 31),
+        (1, |one| one.agreement.algorithm = 9),
+        (2, |one| one.agreement.padding = 7),
+        (3, |one| one.agreement.m = 129),
+        (4, |one| one.keys.push(0)),
+        (5, |one| one.keys.copy_within(..16, 16)),
+        (10, |one| one.room = 36),
+        (10, |one| one.room = 0),
+    ];
+    for (i, (number, fault)) in faults.iter().enumerate() {
+        let one = good.with(fault);
+        assert_eq!(one.number(), *number);
+        for (later, then) in &faults[i + 1..] {
+            assert_eq!(one.with(then).number(), *number, "{number} and {later}");
+        }
+    }
+    let all = faults.iter().fold(good, |one, (_, fault)| one.with(fault));
+    assert_eq!(all.number(), 22);
+}
+
+/// What is written is read back with the same fields and calls.
+#[test]
+fn written_slips_are_read_back() {
+    let (mut random, mut accepted) = (Random::new(4), 0);
+    while accepted < 3000 {
+        let (s, says, room) = draw_write(&mut random);
+        let one = Print { agreement: s.agreement, keys: s.keys().to_vec(), says, room };
+        let (written, bytes) = one.run();
+        if written.number != 0 {
+            continue;
+        }
+        let Says { year, month, day, lot, amount } = one.says;
+        let (calls, lot_len) = (written.calls, lot.len() as u64);
+        let wanted = Slip { number: 0, year, month, day, amount, calls, lot_at: 14, lot_len };
+        let slip = &bytes[..written.length as usize];
+        assert_eq!(read(slip, s.keys()), wanted);
+        assert_eq!(slip[14..14 + lot.len()], lot);
+        accepted += 1;
+    }
+}
+
+/// An accepted slip, written again from its fields and settings, comes out byte for byte.
+#[test]
+fn accepted_slips_are_written_again() {
+    let (mut random, mut accepted) = (Random::new(5), 0);
+    while accepted < 3000 {
+        let (slip, s) = draw_slip(&mut random);
+        let Slip { number, year, month, day, amount, calls, lot_at, lot_len } = read(&slip, s.keys());
+        if number != 0 {
+            continue;
+        }
+        let (lot_at, amount_at) = (lot_at as usize, (lot_at + lot_len) as usize);
+        let says = Says { year, month, day, lot: slip[lot_at..amount_at].to_vec(), amount };
+        let [algorithm, padding, m] = [10, 11, 12].map(|at| slip[amount_at + at].into());
+        let agreement = agreed(algorithm, padding, m);
+        let one = Print { agreement, keys: s.keys().to_vec(), says, room: slip.len() };
+        let length = slip.len() as u64;
+        assert_eq!(one.run(), (Written { number: 0, length, calls }, slip));
+        accepted += 1;
     }
 }

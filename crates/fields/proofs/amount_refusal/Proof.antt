@@ -1,10 +1,10 @@
 -- `amount_refusal` meets its contract: what its row refuses, then the amount (`judged`).
 -- Assumes nothing.
 use mathlib.Core.Path.{_≡_, refl, sym, ap, _∙_}
+use Prim.Native.Nat.{ℕ}
 use Rattle.bits.proofs.Choice.{hit, miss}
 use Rattle.fields.specs.Format.{amountRow}
-use Rattle.fields.specs.Field.{outside}
-use Rattle.fields.specs.Layout.{amountOf, amountFaults}
+use Rattle.fields.specs.Layout.{amountOf, amountWrong, amountFaults}
 use Rattle.fields.proofs.Formed.{head-first, own-first}
 use borrow.Author.Needs.{needs}
 use Rattle.fields.proofs.amount_refusal.Statement.{statement}
@@ -15,10 +15,8 @@ unfolding amountFaults
 returns c = head-first _ _ _ (c .before .field-refusal .ensures) (c .if1 .taken)
 
 -- the test is of the amount that the field names
-judged : (c : tie.After-outside) → c .outside .result ≡ outside 1 1000000 (amountOf (c .before .before .before .before .before .args .field .now))
-judged c =
-    let told : c .outside .result ≡ outside 1 1000000 (c .before .amount .result) = c .outside .ensures in
-    told ∙ ap (outside 1 1000000) (c .before .amount .ensures)
+judged : (c : tie.After-amount-wrong) → c .amount-wrong .result ≡ amountWrong (amountOf (c .before .before .before .before .before .args .field .now))
+judged c = c .amount-wrong .ensures ∙ ap (λ (x : ℕ). amountWrong x) (c .before .amount .ensures)
 
 returns-2 : tie.Need-returns-2
 unfolding amountFaults

@@ -4,18 +4,25 @@
 //!     start A P M KEYS DECLARED    piece BYTES BITS    zeros BYTES PIECES    finish ROOM    same
 //!     forge PHASE PART A P M DECLARED TOTAL K K1 CHAIN HELD
 //!     halves A P M KEYS MESSAGE CALLS TAG    slip KEYS SLIP    changed KEYS SLIP    prefixes KEYS SLIP
+//!     write A P M KEYS YEAR MONTH DAY LOT AMOUNT ROOM
 //!
 //! Words have one blank between them. Numbers are decimal, below 2^64. Bytes are hex digits, at most 4096 bytes, and - is no
-//! bytes. ROOM is a number up to 32: the room's bytes are EE before the call. PHASE is 0 closed, 1 edge, 2 part (with PART).
+//! bytes. ROOM is a number up to 32, of `write` up to 96: the room's bytes are EE before the call. PHASE is 0 closed, 1 edge,
+//! 2 part (with PART). `write` answers `written LENGTH bytes CALLS calls` and all bytes of the room; or `refused N`, then
+//! `with values` where its length or its calls are not 0, then `untouched`, or `CHANGED` where a byte of the room is another.
 //! Session commands act on one record, closed and zero at first, and print its phase after the answer. `same` tells whether
 //! the last of them left the record as it was, `zeros` feeds so many pieces of so many zero bytes, up to 65536. A line that begins with # and an empty line are printed alone.
 
 use reference::session::{self, Record};
-use reference::slip::{self, Tally};
+use reference::slip::{self, Says, Tally, Written};
 use reference::{check, hex, make, unhex, Agreement, Answer};
 use std::io::Read;
 
 const FILL: u8 = 0xEE;
+
+/// The most bytes of the room for a tag, and for a slip.
+const TAG_ROOM: u64 = 32;
+const SLIP_ROOM: u64 = 96;
 
 fn number(word: &str) -> Option<u64> {
     let digits = word.bytes().all(|c| c.is_ascii_digit());
@@ -38,18 +45,34 @@ fn block(word: &str) -> Option<[u8; 16]> {
     bytes(word)?.try_into().ok()
 }
 
-fn room(word: &str) -> Option<Vec<u8>> {
-    let size = number(word).filter(|size| *size <= 32)?;
+fn room(word: &str, most: u64) -> Option<Vec<u8>> {
+    let size = number(word).filter(|size| *size <= most)?;
     Some(vec![FILL; size as usize])
 }
 
-/// What a call that writes into a room answers.
-fn written(answer: Answer, room: &[u8]) -> String {
+fn kept(room: &[u8]) -> &str {
+    if room.iter().all(|byte| *byte == FILL) {
+        "untouched"
+    } else {
+        "CHANGED"
+    }
+}
+
+/// What a call that puts a tag into a room answers.
+fn made(answer: Answer, room: &[u8]) -> String {
     if answer.number == 0 {
         return format!("made {} calls {}", answer.calls, hex(room));
     }
-    let untouched = room.iter().all(|byte| *byte == FILL);
-    format!("refused {} {}", answer.number, if untouched { "untouched" } else { "CHANGED" })
+    format!("refused {} {}", answer.number, kept(room))
+}
+
+/// What a call that puts a slip into a room answers.
+fn written(Written { number, length, calls }: Written, room: &[u8]) -> String {
+    if number == 0 {
+        return format!("written {length} bytes {calls} calls {}", hex(room));
+    }
+    let values = if (length, calls) == (0, 0) { "" } else { "with values " };
+    format!("refused {number} {values}{}", kept(room))
 }
 
 fn accepted(answer: Answer) -> String {
@@ -117,9 +140,9 @@ impl State {
         let words: Vec<&str> = line.split(' ').collect();
         match words[..] {
             ["make", a, p, m, keys, message, bits, size] => {
-                let (keys, message, mut room) = (bytes(keys)?, bytes(message)?, room(size)?);
+                let (keys, message, mut room) = (bytes(keys)?, bytes(message)?, room(size, TAG_ROOM)?);
                 let answer = make(agreed(a, p, m)?, &keys, &message, number(bits)?, &mut room);
-                Some(written(answer, &room))
+                Some(made(answer, &room))
             }
             ["check", a, p, m, keys, message, bits, tag] => {
                 let (keys, message, tag) = (bytes(keys)?, bytes(message)?, bytes(tag)?);
@@ -137,6 +160,13 @@ impl State {
             ["slip", keys, slip] => Some(read(&bytes(slip)?, &bytes(keys)?)),
             ["changed", keys, slip] => Some(counted(slip::changed(&bytes(slip)?, &bytes(keys)?))),
             ["prefixes", keys, slip] => Some(counted(slip::prefixes(&bytes(slip)?, &bytes(keys)?))),
+            ["write", a, p, m, keys, year, month, day, lot, amount, size] => {
+                let (year, month, day) = (number(year)?, number(month)?, number(day)?);
+                let says = Says { year, month, day, lot: bytes(lot)?, amount: number(amount)? };
+                let mut room = room(size, SLIP_ROOM)?;
+                let answer = slip::write(agreed(a, p, m)?, &bytes(keys)?, &says, &mut room);
+                Some(written(answer, &room))
+            }
             ["start", a, p, m, keys, declared] => {
                 let (next, answer) = session::start(agreed(a, p, m)?, &bytes(keys)?, number(declared)?);
                 self.step(next, accepted(answer))
@@ -155,9 +185,9 @@ impl State {
                 self.step(next, accepted(answer))
             }
             ["finish", size] => {
-                let mut room = room(size)?;
+                let mut room = room(size, TAG_ROOM)?;
                 let (next, answer) = session::finish(self.record, &mut room);
-                self.step(next, written(answer, &room))
+                self.step(next, made(answer, &room))
             }
             ["same"] => Some(self.with_phase((if self.same { "same" } else { "changed" }).to_string())),
             ["forge", phase, part, a, p, m, declared, total, k, k1, chain, held] => {

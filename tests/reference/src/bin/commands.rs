@@ -1,12 +1,14 @@
 //! commands call SEED COUNT: pseudo-random make and check lines for the bin `answer`, two for each of COUNT cases.
 //! commands slip SEED COUNT: pseudo-random slip lines, one for each of COUNT cases, by `draw_slip`.
+//! commands write SEED COUNT: pseudo-random write lines, one for each of COUNT cases, by `draw_write`.
 //!
 //! A call draws its settings by `Settings::draw`, a message of up to three blocks near their borders, and now and then a wrong
 //! slice length, a far bit count, a room or a tag of another size. The tag offered is the right one, where there is one, in one
 //! case of three with one bit turned, which may be a spare one.
 
-use reference::cases::{draw_slip, Random, Settings, BITS};
+use reference::cases::{draw_slip, draw_write, Random, Settings, BITS};
 use reference::padding::bytes_for;
+use reference::slip::Says;
 use reference::{hex, make, Agreement};
 
 fn word(bytes: &[u8]) -> String {
@@ -56,16 +58,25 @@ fn slip(r: &mut Random) {
     println!("slip {} {}", word(s.keys()), word(&slip));
 }
 
+fn write(r: &mut Random) {
+    let (s, says, room) = draw_write(r);
+    let Agreement { algorithm, padding, m } = s.agreement;
+    let Says { year, month, day, lot, amount } = says;
+    let settings = format!("{algorithm} {padding} {m} {}", word(s.keys()));
+    println!("write {settings} {year} {month} {day} {} {amount} {room}", word(&lot));
+}
+
 fn main() {
     let words: Vec<String> = std::env::args().collect();
     let number = |i: usize| words.get(i).and_then(|word| word.parse::<u64>().ok());
     let kind = match words.get(1).map(|word| word.as_str()) {
         Some("call") => Some(call as fn(&mut Random)),
         Some("slip") => Some(slip as fn(&mut Random)),
+        Some("write") => Some(write as fn(&mut Random)),
         _ => None,
     };
     let (Some(kind), Some(seed), Some(count)) = (kind, number(2), number(3)) else {
-        return eprintln!("commands call|slip SEED COUNT");
+        return eprintln!("commands call|slip|write SEED COUNT");
     };
     let mut random = Random::new(seed);
     for _ in 0..count {

@@ -1,0 +1,253 @@
+-- Document 02 §1's words about printing, said of every answer that the contract of `write` allows: the number is that of the first fault, 22,
+-- 23, 1 to 6 or 10, and 0 where there is none; a refused call leaves the room as it was and reports zeros (`write-untouched`); a written
+-- slip stands at the front of the room, 27 bytes and the lot's and the tag's, and the rest of the room is as it was (`write-written`).
+-- And both round trips, of every answer of `write`, `read` and `lot`: `written-read`, `written-lot`, `read-written`.
+-- Assumes nothing.
+use mathlib.Core.Path.{_≡_, refl, sym, ap, ap₂, _∙_, subst}
+use mathlib.Core.Bool.{Bool, true, false, _||_}
+use mathlib.Core.List.{List, [], _∷_, _++_}
+use Prim.Native.Nat.{ℕ, zero, suc, _+_, _≤_}
+use native.Mathlib.Omega.{arith}
+use lib.Dec.{eqb, ltb, leb}
+use lib.ListN.{length, take, drop}
+use lib.Seq.{take-at, drop-drop}
+use denote.Ref.{ptr, now}
+use contract.Lifetimes.{Lfts}
+use borrow.Fn.Kinds.{Dens}
+use borrow.Author.Tests.{le-ltb, ltb-false, ne-eqb, eqb-true, eqb-false}
+use Rattle.bits.specs.Choice.{pick, _given_, firstOf}
+use Rattle.bits.specs.Once.{Allowed}
+use Rattle.bits.proofs.Faults.{Every, all, with, every-append, every-first, Numbered, also, none, numbered-append, clear-append, first-clear, clear-first, first-append-clear, Clear, passed, done}
+use Rattle.mac.specs.Tag.{bytesFor}
+use Rattle.settings.specs.Faults.{settingsFaults}
+use Rattle.settings.specs.declared.Agreement.{Agreement}
+use Rattle.fields.specs.Field.{lengthOf, value}
+use Rattle.fields.specs.Layout.{lotAt, lotField, amountField}
+use Rattle.writing.specs.Writing.{Says, said, saysFaults}
+use Rattle.writing.proofs.Allowed.{says-numbered}
+use Rattle.writing.proofs.ReadBack.{saysOf}
+use Rattle.slip.specs.Part.{seen, partOf, lotPart}
+use Rattle.slip.specs.Slip.{agreementNamed, sealCalls, agreementFaults, slipFaults, contentsOf, acceptedSlip, readOf}
+use Rattle.slip.specs.Printed.{slipOf, slipCalls, sealingFaults, writeFaults, writtenSlip, unwrittenSlip, writtenBy, writeOf}
+use Rattle.slip.specs.declared.Contents.{Contents}
+use Rattle.slip.specs.declared.Slip.{Slip}
+use Rattle.slip.specs.declared.Written.{Written}
+use Rattle.slip.proofs.Judged.{agreement-numbered}
+use Rattle.slip.proofs.Whole.{Accepted}
+use Rattle.slip.proofs.Numbers.{accepted-is, read-number}
+use Rattle.slip.proofs.Printing.{refused-by}
+use Rattle.slip.proofs.RoundTrip.{Writable, saidSlip, length-printed, printed-read, lot-printed, writable-again, read-printed, calls-again}
+use Rattle.slip.proofs.read.Kinds as read-k
+use Rattle.slip.proofs.read.Reads as read
+use Rattle.slip.proofs.lot.Kinds as lot-k
+use Rattle.slip.proofs.lot.Reads as lot
+use Rattle.slip.proofs.write.Kinds as write-k
+use Rattle.slip.proofs.write.Reads as write
+
+-- ---- which numbers printing can get
+
+-- 0, 1 to 6, 10, 22, 23
+unfoldable pub writeNumber : ℕ → Bool
+writeNumber n = leb n 6 || (eqb n 10 || (eqb n 22 || eqb n 23))
+
+-- ---- the two kinds of answer
+
+-- a slip that was written: its length and calls, and the slip before the rest of the room
+abbrev pub writtenAs : List ℕ → ℕ → List ℕ → Written × List ℕ
+writtenAs slip calls room = (writtenSlip (length slip) calls, slip ++ drop (length slip) room)
+
+-- the definition's
+abbrev pub writtenOf : Agreement → List ℕ → Says → List ℕ → Written × List ℕ
+writtenOf A keys x room = writtenAs (slipOf A keys x) (slipCalls A keys x) room
+
+-- a refusal: the number, zeros, and the room as it was
+abbrev pub unwrittenOf : ℕ → List ℕ → Written × List ℕ
+unwrittenOf n room = (unwrittenSlip n, room)
+
+module _ (A : Agreement) (keys : List ℕ) (x : Says) (room : List ℕ) where
+  -- the first fault
+  abbrev pub writeFault : ℕ
+  writeFault = firstOf (writeFaults A keys x (length room))
+
+  pub write-numbers : writeNumber writeFault ≡ true
+  unfolding writeFaults saysFaults sealingFaults settingsFaults writeNumber
+  write-numbers =
+      every-first {P = λ n. writeNumber n ≡ true} refl
+      (every-append {P = λ n. writeNumber n ≡ true} (with refl (with refl (with refl all))) (with refl (with refl (with refl (with refl (with refl (with refl (with refl all))))))))
+
+  write-numbered : Numbered (writeFaults A keys x (length room))
+  unfolding writeFaults sealingFaults
+  write-numbered = numbered-append (says-numbered x) (numbered-append (agreement-numbered A keys) (also {k = 10} (omega arith) none))
+
+  -- what is not refused can be written, and there is room for it
+  pub writable : writeFault ≡ 0 → Writable A keys x × (length (slipOf A keys x) ≤ length room)
+  unfolding writeFaults sealingFaults
+  writable e =
+      let all = first-clear (writeFaults A keys x (length room)) write-numbered e in
+      let in-says = clear-append (saysFaults x) _ all in
+      let in-settings = clear-append (agreementFaults A keys) _ (in-says .1) in
+      (record { says = clear-first (in-says .0); settings = clear-first (in-settings .0) }, enough (in-settings .1))
+    where
+      enough : Clear (10 given ltb (length room) (length (slipOf A keys x)) ∷ []) → length (slipOf A keys x) ≤ length room
+      enough (passed h done) = ltb-false (length room) (length (slipOf A keys x)) h
+
+  pub refused-is : ¬ (writeFault ≡ 0) → writeOf A keys x room ≡ unwrittenOf writeFault room
+  unfolding writeOf
+  refused-is some = sym (refused-by writeFault (slipOf A keys x) (slipCalls A keys x) room some)
+
+  pub written-is : writeFault ≡ 0 → writeOf A keys x room ≡ writtenOf A keys x room
+  unfolding writeOf writtenBy pick
+  written-is e = rw e refl
+
+  pub number-is : writeOf A keys x room .0 .number ≡ writeFault
+  unfolding writtenSlip unwrittenSlip
+  number-is = go (eqb writeFault 0) refl
+    where
+      go : (b : Bool) → eqb writeFault 0 ≡ b → writeOf A keys x room .0 .number ≡ writeFault
+      go true h = let e = eqb-true writeFault 0 h in ap (λ (r : Written × List ℕ). r .0 .number) (written-is e) ∙ sym e
+      go false h = ap (λ (r : Written × List ℕ). r .0 .number) (refused-is (eqb-false writeFault 0 h))
+
+  -- and the other way round
+  pub clear-of : Writable A keys x → length (slipOf A keys x) ≤ length room → writeFault ≡ 0
+  unfolding writeFaults sealingFaults
+  clear-of ok room-there =
+      first-append-clear (saysFaults x) _ (says-numbered x) (ok .says)
+      ∙ first-append-clear (agreementFaults A keys) _ (agreement-numbered A keys) (ok .settings)
+      ∙ clear-first (passed (le-ltb (length room) (length (slipOf A keys x)) room-there) done)
+
+-- ---- of every answer of `write`
+
+abbrev pub Writing : (κs : Lfts 3) → Dens κs write-k.ps → Type 0
+Writing κs a = Allowed write-k.ps write-k.r write.Learnt κs a
+
+module _ (κs : Lfts 3) (a : Dens κs write-k.ps) where
+  -- what it was given: the keys, what the slip is to say, the room
+  abbrev pub keysGiven : List ℕ
+  keysGiven = a .1 .0 .now
+
+  abbrev pub saysGiven : Says
+  saysGiven = said (a .1 .1 .0) (a .1 .1 .1 .0) (a .1 .1 .1 .1 .0) (a .1 .1 .1 .1 .1 .0 .now) (a .1 .1 .1 .1 .1 .1 .0)
+
+  abbrev pub roomGiven : List ℕ
+  roomGiven = a .1 .1 .1 .1 .1 .1 .1 .0 .now
+
+  -- its slip
+  abbrev pub slipGiven : List ℕ
+  slipGiven = slipOf (a .0) keysGiven saysGiven
+
+module _ (κs : Lfts 3) (a : Dens κs write-k.ps) (x : Writing κs a) where
+  -- the room at the end
+  abbrev pub roomLeft : List ℕ
+  roomLeft = x .last .1 .1 .1 .1 .1 .1 .1 .0
+
+  abbrev fault : ℕ
+  fault = writeFault (a .0) (keysGiven κs a) (saysGiven κs a) (roomGiven κs a)
+
+  pub write-number : x .result .number ≡ fault
+  write-number = ap (λ (r : Written × List ℕ). r .0 .number) (x .ensures) ∙ number-is (a .0) (keysGiven κs a) (saysGiven κs a) (roomGiven κs a)
+
+  -- a refused call: its number and zeros, and the room as it was
+  pub write-untouched : ¬ (x .result .number ≡ 0) → (x .result, roomLeft) ≡ unwrittenOf fault (roomGiven κs a)
+  write-untouched some = x .ensures ∙ refused-is (a .0) (keysGiven κs a) (saysGiven κs a) (roomGiven κs a) (λ e. some (write-number ∙ e))
+
+  module _ (good : x .result .number ≡ 0) where
+    clear : fault ≡ 0
+    clear = sym write-number ∙ good
+
+    ok : Writable (a .0) (keysGiven κs a) (saysGiven κs a)
+    ok = writable (a .0) (keysGiven κs a) (saysGiven κs a) (roomGiven κs a) clear .0
+
+    -- a written slip: its length and calls, and the slip before the rest of the room
+    pub write-written : (x .result, roomLeft) ≡ writtenOf (a .0) (keysGiven κs a) (saysGiven κs a) (roomGiven κs a)
+    write-written = x .ensures ∙ written-is (a .0) (keysGiven κs a) (saysGiven κs a) (roomGiven κs a) clear
+
+    length-is : x .result .length ≡ length (slipGiven κs a)
+    unfolding writtenSlip
+    length-is = ap (λ (r : Written × List ℕ). r .0 .length) write-written
+
+    pub write-length : x .result .length ≡ 27 + length (saysGiven κs a .lot) + bytesFor (a .0 .m)
+    write-length = length-is ∙ length-printed (a .0) (keysGiven κs a) (saysGiven κs a) ok
+
+    pub write-calls : x .result .calls ≡ slipCalls (a .0) (keysGiven κs a) (saysGiven κs a)
+    unfolding writtenSlip
+    write-calls = ap (λ (r : Written × List ℕ). r .0 .calls) write-written
+
+    -- the slip is the first bytes of the room, as many as were told
+    pub slip-first : take (x .result .length) roomLeft ≡ slipGiven κs a
+    slip-first =
+        ap₂ (λ (n : ℕ) (r : List ℕ). take n r) length-is (ap (λ (r : Written × List ℕ). r .1) write-written)
+        ∙ take-at (slipGiven κs a) (drop (length (slipGiven κs a)) (roomGiven κs a)) (length (slipGiven κs a)) refl
+
+    -- ---- the first round trip: what was written, read under the same keys
+
+    -- it is accepted, and gives date, amount, calls and the lot's place back
+    pub reads-back : readOf (take (x .result .length) roomLeft) (keysGiven κs a) ≡ saidSlip (saysGiven κs a) (x .result .calls)
+    reads-back =
+        ap (λ (s : List ℕ). readOf s (keysGiven κs a)) slip-first
+        ∙ printed-read (a .0) (keysGiven κs a) (saysGiven κs a) ok ∙ ap (saidSlip (saysGiven κs a)) (sym write-calls)
+
+    -- the lot's bytes are there
+    pub lot-back : take (length (saysGiven κs a .lot)) (drop 14 (take (x .result .length) roomLeft)) ≡ saysGiven κs a .lot
+    lot-back = ap (λ (s : List ℕ). take (length (saysGiven κs a .lot)) (drop 14 s)) slip-first ∙ lot-printed (a .0) (keysGiven κs a) (saysGiven κs a) ok
+
+    module _ (λs : Lfts 2) (b : Dens λs read-k.ps) (y : Allowed read-k.ps read-k.r read.Learnt λs b)
+        (lent : b .0 .now ≡ take (x .result .length) roomLeft) (keyed : b .1 .0 .now ≡ keysGiven κs a) where
+      pub written-read : y .result ≡ saidSlip (saysGiven κs a) (x .result .calls)
+      written-read = y .ensures ∙ ap₂ readOf lent keyed ∙ reads-back
+
+    module _ (λs : Lfts 2) (b : Dens λs lot-k.ps) (z : Allowed lot-k.ps lot-k.r lot.Learnt λs b)
+        (lent : b .0 .now ≡ take (x .result .length) roomLeft) (keyed : b .1 .0 .now ≡ keysGiven κs a) where
+      -- the lot comes back as that very part of the slip: its bytes, from byte 14 on
+      pub written-lot : (ptr (z .result) ≡ (ptr (b .0) .0, 14 + ptr (b .0) .1)) × (now (z .result) ≡ saysGiven κs a .lot)
+      written-lot =
+          let e : seen (z .result) ≡ partOf (b .0) 14 (length (saysGiven κs a .lot)) = z .ensures ∙ ap (λ (r : Slip). lotPart (b .0) (r .contents)) (ap₂ readOf lent keyed ∙ reads-back) in
+          (ap (λ (r : (ℕ × ℕ) × List ℕ). r .0) e, ap (λ (r : (ℕ × ℕ) × List ℕ). r .1) e ∙ ap (λ (s : List ℕ). take (length (saysGiven κs a .lot)) (drop 14 s)) lent ∙ lot-back)
+
+-- ---- the second round trip: a slip that was accepted, written again
+
+-- a call of `write` from the settings that a slip names, under the keys, from the contents that were read, with room for the slip
+pub record Again (s keys : List ℕ) (c : Contents) (κs : Lfts 3) (a : Dens κs write-k.ps) : Type 0 where
+  pub agreed : a .0 ≡ agreementNamed s
+  pub keyed : keysGiven κs a ≡ keys
+  pub year : a .1 .1 .0 ≡ c .year
+  pub month : a .1 .1 .1 .0 ≡ c .month
+  pub day : a .1 .1 .1 .1 .0 ≡ c .day
+  pub lot : a .1 .1 .1 .1 .1 .0 .now ≡ take (c .«lot_len») (drop (c .«lot_at») s)
+  pub amount : a .1 .1 .1 .1 .1 .1 .0 ≡ c .amount
+  pub room : length s ≤ length (roomGiven κs a)
+
+module _ (s keys : List ℕ) (yes : Accepted s keys) (κs : Lfts 3) (a : Dens κs write-k.ps) (x : Writing κs a) (again : Again s keys (readOf s keys .contents) κs a) where
+  contents-are : readOf s keys .contents ≡ contentsOf s
+  unfolding acceptedSlip
+  contents-are = ap (λ (r : Slip). r .contents) (accepted-is s keys yes)
+
+  calls-are : readOf s keys .calls ≡ sealCalls (agreementNamed s) s keys
+  unfolding acceptedSlip
+  calls-are = ap (λ (r : Slip). r .calls) (accepted-is s keys yes)
+
+  lot-is : take (readOf s keys .contents .«lot_len») (drop (readOf s keys .contents .«lot_at») s) ≡ value (lotField s)
+  unfolding contentsOf value lotField
+  lot-is = ap (λ (c : Contents). take (c .«lot_len») (drop (c .«lot_at») s)) contents-are ∙ ap (take (lengthOf (lotField s))) (sym (drop-drop 3 (lotAt s) s))
+
+  same-says : saysGiven κs a ≡ saysOf s
+  unfolding contentsOf
+  same-says =
+      let c = contents-are in
+      λ i. said ((again .year ∙ ap (λ (k : Contents). k .year) c) i) ((again .month ∙ ap (λ (k : Contents). k .month) c) i) ((again .day ∙ ap (λ (k : Contents). k .day) c) i) ((again .lot ∙ lot-is) i) ((again .amount ∙ ap (λ (k : Contents). k .amount) c) i)
+
+  -- it comes out byte for byte, with its length and the calls that were read
+  pub writes-again : (x .result, roomLeft κs a x) ≡ writtenAs s (readOf s keys .calls) (roomGiven κs a)
+  writes-again =
+      let named = agreementNamed s in
+      let room = roomGiven κs a in
+      let same = read-printed s keys yes in
+      x .ensures ∙ (λ i. writeOf (again .agreed i) (again .keyed i) (same-says i) room)
+      ∙ written-is named keys (saysOf s) room (clear-of named keys (saysOf s) room (writable-again s keys yes) (omega (arith, ap length same, again .room)))
+      ∙ ap₂ (λ (t : List ℕ) (n : ℕ). writtenAs t n room) same (calls-again s keys yes ∙ sym calls-are)
+
+module _ (λs : Lfts 2) (b : Dens λs read-k.ps) (y : Allowed read-k.ps read-k.r read.Learnt λs b) (good : y .result .number ≡ 0)
+    (κs : Lfts 3) (a : Dens κs write-k.ps) (x : Writing κs a) (again : Again (b .0 .now) (b .1 .0 .now) (y .result .contents) κs a) where
+  pub read-written : (x .result, roomLeft κs a x) ≡ writtenAs (b .0 .now) (y .result .calls) (roomGiven κs a)
+  read-written =
+      writes-again (b .0 .now) (b .1 .0 .now) (sym (read-number λs b y) ∙ good) κs a x (subst (λ (r : Slip). Again (b .0 .now) (b .1 .0 .now) (r .contents) κs a) (y .ensures) again)
+      ∙ ap (λ (r : Slip). writtenAs (b .0 .now) (r .calls) (roomGiven κs a)) (sym (y .ensures))

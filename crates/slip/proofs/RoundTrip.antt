@@ -1,0 +1,202 @@
+-- Printing and reading undo each other. At the shelf: a slip that was printed is accepted under the same keys and says what it was to say
+-- (`printed-read`); a slip that was accepted, printed again from what it says and names, is that slip byte for byte (`read-printed`). So
+-- under an agreement and keys, what can be printed and the slips that are accepted and name the agreement correspond one to one
+-- (`one-to-one`).
+-- Assumes nothing.
+use mathlib.Core.Path.{_≡_, refl, sym, ap, ap₂, _∙_, subst}
+use mathlib.Core.Bool.{false, not}
+use mathlib.Core.List.{List, [], _∷_, _++_, append-nil}
+use Prim.Native.Nat.{ℕ, zero, suc, _+_, _*_, _≤_, _<_}
+use native.Mathlib.Omega.{arith}
+use lib.ListN.{length, take, drop, getD}
+use lib.Seq.{drop-drop}
+use borrow.Author.Tests.{eq-eqb}
+use Rattle.bits.specs.Choice.{firstOf}
+use Rattle.bits.proofs.Faults.{passed, done, clear-first, first-append-clear}
+use Rattle.bits.proofs.Same.{sameBytes-true}
+use Rattle.mac.specs.Tag.{bytesFor, tagBytes}
+use Rattle.mac.proofs.TagBytes.{tagBytes-fit}
+use Rattle.keys.specs.Given.{keysOf}
+use Rattle.settings.specs.Faults.{settingsRefusal}
+use Rattle.settings.proofs.Sound.{sound-size, sound-bytes}
+use Rattle.settings.specs.declared.Agreement.{Agreement}
+use Rattle.tag.specs.OneCall.{tagAt, callsAt}
+use Rattle.settings.specs.Answers.{settingsOf}
+use Rattle.message.specs.Faults.{tagLengthWrong}
+use Rattle.fields.specs.Format.{sealRow}
+use Rattle.fields.specs.Field.{lengthOf, value, fieldOf}
+use Rattle.fields.specs.Layout.{lotAt, lotField, sealField, covered, layoutFaults}
+use Rattle.fields.proofs.Formed.{any-byte}
+use Rattle.fields.proofs.Laid.{LaidOut, layout-numbered}
+use Rattle.fields.proofs.Written.{written-value}
+use Rattle.fields.proofs.Whole.{covered-then-seal}
+use Rattle.writing.specs.Writing.{Says, said, saysFaults, coveredOf}
+use Rattle.writing.proofs.Allowed.{Sayable, sayable, unrefused, length-covered}
+use Rattle.writing.proofs.ReadBack.{saysOf, seal-back, covered-back, covered-all, says-back, lot-value-back, lot-length-back, lot-at-back, layout-back}
+use Rattle.writing.proofs.WriteBack.{sayable-again, written-again, covered-again}
+use Rattle.slip.specs.Slip.{sealValue, agreementNamed, tagNamed, sealDefined, sealCalls, sealWrong, agreementFaults, faultsUnder, slipFaults, contentsOf, acceptedSlip, readOf}
+use Rattle.slip.specs.Printed.{sealedBy, slipOf, slipCalls}
+use Rattle.slip.specs.declared.Contents.{Contents}
+use Rattle.slip.specs.declared.Slip.{Slip}
+use Rattle.slip.proofs.Judged.{Believed, believed, agreement-numbered}
+use Rattle.slip.proofs.Whole.{Accepted, sealOf, seal-is}
+use Rattle.slip.proofs.Numbers.{accepted-is}
+use Rattle.slip.proofs.Printing.{length-seal, length-sealed}
+
+-- ---- what is said
+
+-- no rule refuses to write it, where there is room
+pub record Writable (A : Agreement) (keys : List ℕ) (x : Says) : Type 0 where
+  pub says : firstOf (saysFaults x) ≡ 0
+  pub settings : firstOf (agreementFaults A keys) ≡ 0
+
+-- what reading tells of a slip that says x
+abbrev pub saidSlip : Says → ℕ → Slip
+saidSlip x calls = record {
+  number = 0;
+  calls = calls;
+  contents = record { year = x .year; month = x .month; day = x .day; amount = x .amount; «lot_at» = 14; «lot_len» = length (x .lot) };
+}
+
+-- ---- what was printed is read
+
+module _ (A : Agreement) (keys : List ℕ) (x : Says) (ok : Writable A keys x) where
+  abbrev printed : List ℕ
+  printed = slipOf A keys x
+
+  abbrev seal : List ℕ
+  seal = sealDefined A (coveredOf x) keys
+
+  said-well : Sayable x
+  said-well = sayable x (ok .says)
+
+  pub covered-printed : covered printed ≡ coveredOf x
+  unfolding slipOf sealedBy
+  covered-printed = covered-back x (fieldOf sealRow (sealValue A seal))
+
+  seal-printed : sealField printed ≡ fieldOf sealRow (sealValue A seal)
+  unfolding slipOf sealedBy
+  seal-printed = seal-back x (fieldOf sealRow (sealValue A seal))
+
+  pub agreement-printed : agreementNamed printed ≡ A
+  unfolding agreementNamed
+  agreement-printed = rw seal-printed refl
+
+  tag-printed : tagNamed printed ≡ seal
+  unfolding tagNamed
+  tag-printed = ap (λ (f : List ℕ). drop 3 (value f)) (seal-printed ∙ sym (append-nil (fieldOf sealRow (sealValue A seal)))) ∙ ap (drop 3) (written-value sealRow (sealValue A seal) [])
+
+  -- the seal that reading defines for the whole slip is the one that was made of its covered bytes
+  seal-same : sealDefined A printed keys ≡ seal
+  unfolding sealDefined
+  seal-same = ap (λ (c : List ℕ). tagBytes (tagAt (settingsOf A) (keysOf keys) c (8 * length c))) (covered-printed ∙ sym (covered-all x))
+
+  calls-same : sealCalls A printed keys ≡ slipCalls A keys x
+  unfolding sealCalls slipCalls
+  calls-same = ap (λ (c : List ℕ). callsAt (settingsOf A) (keysOf keys) c (8 * length c)) (covered-printed ∙ sym (covered-all x))
+
+  -- 22 to 53 bytes are covered, and the seal has ⌈m/8⌉
+  covered-few : (22 ≤ length (coveredOf x)) × (length (coveredOf x) ≤ 53)
+  covered-few = (omega (arith, length-covered x, said-well .lot-length), omega (arith, length-covered x, said-well .lot-length))
+
+  pub seal-bytes : length seal ≡ bytesFor (A .m)
+  seal-bytes = length-seal A keys (coveredOf x) (covered-all x) (covered-few .0) (covered-few .1) (ok .settings)
+
+  pub length-printed : length printed ≡ 27 + length (x .lot) + bytesFor (A .m)
+  unfolding slipOf
+  length-printed = omega (arith, length-sealed A (coveredOf x) seal, length-covered x, seal-bytes)
+
+  -- every byte of the seal is one
+  seal-fits : (i : ℕ) → getD (sealValue A seal) i 0 < 256
+  unfolding sealDefined settingsRefusal
+  seal-fits zero = sound-bytes A (length keys) (keysOf keys) (ok .settings) .0
+  seal-fits (suc zero) = sound-bytes A (length keys) (keysOf keys) (ok .settings) .1 .0
+  seal-fits (suc (suc zero)) = sound-bytes A (length keys) (keysOf keys) (ok .settings) .1 .1
+  seal-fits (suc (suc (suc i))) = tagBytes-fit _ i
+
+  layout-printed : firstOf (layoutFaults printed) ≡ 0
+  unfolding slipOf sealedBy settingsRefusal bytesFor
+  layout-printed =
+      let size = sound-size A (length keys) (keysOf keys) (ok .settings) in
+      let long = seal-bytes in
+      layout-back x said-well (sealValue A seal) (omega (arith, long, size)) (omega (arith, long, size)) (any-byte (sealValue A seal) seal-fits)
+
+  tag-length-right : tagLengthWrong (A .m) (length (tagNamed printed)) ≡ false
+  unfolding tagLengthWrong
+  tag-length-right = ap not (eq-eqb _ _ (ap length tag-printed ∙ seal-bytes))
+
+  seal-right : sealWrong A printed keys ≡ false
+  unfolding sealWrong
+  seal-right = ap not (sameBytes-true _ _ (tag-printed ∙ sym seal-same))
+
+  pub accepted-printed : Accepted printed keys
+  unfolding slipFaults faultsUnder
+  accepted-printed =
+      rw agreement-printed
+      (first-append-clear (layoutFaults printed) _ (layout-numbered printed) layout-printed
+      ∙ first-append-clear (agreementFaults A keys) _ (agreement-numbered A keys) (ok .settings) ∙ clear-first (passed tag-length-right (passed seal-right done)))
+
+  contents-printed : contentsOf printed ≡ saidSlip x 0 .contents
+  unfolding contentsOf slipOf sealedBy
+  contents-printed =
+      let rest = fieldOf sealRow (sealValue A seal) in
+      let same = says-back x rest said-well in
+      let at : lotAt printed + 3 ≡ 14 = omega (arith, lot-at-back x rest) in
+      λ i. record { year = same i .year; month = same i .month; day = same i .day; amount = same i .amount; «lot_at» = at i; «lot_len» = lot-length-back x rest i }
+
+  -- accepted under the same keys, with date, lot, amount and calls as they were
+  pub printed-read : readOf printed keys ≡ saidSlip x (slipCalls A keys x)
+  unfolding acceptedSlip
+  printed-read =
+      accepted-is printed keys accepted-printed
+      ∙ ap₂ (λ (calls : ℕ) (c : Contents). record { number = 0; calls = calls; contents = c }) (ap (λ (B : Agreement). sealCalls B printed keys) agreement-printed ∙ calls-same) contents-printed
+
+  -- and the lot is there, byte for byte
+  pub lot-printed : take (length (x .lot)) (drop 14 printed) ≡ x .lot
+  unfolding slipOf sealedBy value lotField
+  lot-printed =
+      let rest = fieldOf sealRow (sealValue A seal) in
+      let at : lotAt printed + 3 ≡ 14 = omega (arith, lot-at-back x rest) in
+      ap₂ (λ (n k : ℕ). take n (drop k printed)) (sym (lot-length-back x rest)) (sym at) ∙ ap (take (lengthOf (lotField printed))) (sym (drop-drop 3 (lotAt printed) printed)) ∙ lot-value-back x rest
+
+-- ---- what was read is printed again
+
+module _ (s keys : List ℕ) (yes : Accepted s keys) where
+  abbrev named : Agreement
+  named = agreementNamed s
+
+  judged : Believed named s keys
+  unfolding slipFaults
+  judged = believed named s keys yes
+
+  pub writable-again : Writable named keys (saysOf s)
+  writable-again = record { says = unrefused (saysOf s) (sayable-again s (judged .fields)); settings = judged .settings }
+
+  front-again : covered (coveredOf (saysOf s)) ≡ covered s
+  front-again = covered-all (saysOf s) ∙ covered-again s (judged .fields)
+
+  -- printed from what it says and names, it comes out byte for byte
+  pub read-printed : slipOf named keys (saysOf s) ≡ s
+  unfolding slipOf sealedBy sealDefined
+  read-printed =
+      ap₂ (λ (front c : List ℕ). front ++ fieldOf sealRow (sealValue named (tagBytes (tagAt (settingsOf named) (keysOf keys) c (8 * length c))))) (covered-again s (judged .fields)) front-again
+      ∙ ap (λ (f : List ℕ). covered s ++ f) (sym (seal-is s keys yes)) ∙ sym (covered-then-seal s (judged .fields))
+
+  pub calls-again : slipCalls named keys (saysOf s) ≡ sealCalls named s keys
+  unfolding slipCalls sealCalls
+  calls-again = ap (λ (c : List ℕ). callsAt (settingsOf named) (keysOf keys) c (8 * length c)) front-again
+
+-- ---- both at once
+
+-- under an agreement and keys: each content that can be printed has its slip, which is accepted, names the agreement and says the content;
+-- each slip that is accepted and names the agreement says a content that can be printed, and is its slip
+pub record OneToOne (A : Agreement) (keys : List ℕ) : Type 0 where
+  pub print : (x : Says) → Writable A keys x → Accepted (slipOf A keys x) keys × ((agreementNamed (slipOf A keys x) ≡ A) × (saysOf (slipOf A keys x) ≡ x))
+  pub read : (s : List ℕ) → Accepted s keys → agreementNamed s ≡ A → Writable A keys (saysOf s) × (slipOf A keys (saysOf s) ≡ s)
+
+pub one-to-one : (A : Agreement) (keys : List ℕ) → OneToOne A keys
+unfolding slipOf sealedBy
+one-to-one A keys = record {
+  print = λ x ok. (accepted-printed A keys x ok, (agreement-printed A keys x ok, says-back x _ (said-well A keys x ok)));
+  read = λ s yes names. (subst (λ (B : Agreement). Writable B keys (saysOf s)) names (writable-again s keys yes), ap (λ (B : Agreement). slipOf B keys (saysOf s)) (sym names) ∙ read-printed s keys yes);
+}

@@ -1,0 +1,71 @@
+-- Slips through C, said of every answer that the contracts of `slipseal_write` and `slipseal_read` allow: what was written is read back
+-- under the same keys (`c-written-read`), and an accepted slip written again from what was read is that slip (`c-read-written`); a refused
+-- call leaves the room (`write-untouched`). `slipseal_write` keeps the contract of `slip::write` word for word, so its answers are that
+-- function's.
+-- Assumes nothing.
+use mathlib.Core.Path.{_≡_, refl, sym, ap, ap₂, _∙_, subst}
+use mathlib.Core.Bool.{Bool, true, false}
+use mathlib.Core.List.{List}
+use Prim.Native.Nat.{ℕ}
+use lib.Dec.{eqb}
+use lib.ListN.{take}
+use contract.Lifetimes.{Lfts}
+use borrow.Author.Tests.{eqb-true, eqb-false}
+use borrow.Fn.Kinds.{Dens}
+use Rattle.bits.specs.Choice.{firstOf}
+use Rattle.bits.specs.Once.{Allowed}
+use Rattle.slip.specs.Slip.{slipFaults, refusedSlip, readOf}
+use Rattle.slip.specs.declared.Contents.{Contents}
+use Rattle.slip.specs.declared.Slip as slip
+use Rattle.slip.proofs.Whole.{Accepted}
+use Rattle.slip.proofs.RoundTrip.{saidSlip}
+use Rattle.slip.proofs.Numbers.{refused-is}
+use Rattle.slip.proofs.PrintedAnswers.{keysGiven, saysGiven, roomGiven, roomLeft, unwrittenOf, writtenAs, write-number, reads-back, Again, writes-again}
+use Rattle.slip.proofs.PrintedAnswers as slip-answers
+use Rattle.slipseal.specs.declared.Slip.{Slip}
+use Rattle.slipseal.specs.Border.{toldSlip}
+use Rattle.slipseal.proofs.slipseal_read.Kinds as read-k
+use Rattle.slipseal.proofs.slipseal_read.Reads as read
+use Rattle.slipseal.proofs.slipseal_write.Kinds as write-k
+use Rattle.slipseal.proofs.slipseal_write.Reads as write
+
+abbrev pub Written : (κs : Lfts 3) → Dens κs write-k.ps → Type 0
+Written κs a = Allowed write-k.ps write-k.r write.Learnt κs a
+
+abbrev pub Read : (κs : Lfts 2) → Dens κs read-k.ps → Type 0
+Read κs a = Allowed read-k.ps read-k.r read.Learnt κs a
+
+-- what was read, as `slip::write` is given it
+abbrev pub contentsIn : Slip → Contents
+contentsIn r = record { year = r .year; month = r .month; day = r .day; amount = r .amount; «lot_at» = r .«lot_at»; «lot_len» = r .«lot_len» }
+
+module _ (κs : Lfts 3) (a : Dens κs write-k.ps) (x : Written κs a) where
+  -- a refused call: its number and zeros, and the room as it was
+  pub write-untouched : ¬ (x .result .number ≡ 0) → (x .result, roomLeft κs a x) ≡ unwrittenOf (x .result .number) (roomGiven κs a)
+  write-untouched some = slip-answers.write-untouched κs a x some ∙ ap (λ (n : ℕ). unwrittenOf n (roomGiven κs a)) (sym (write-number κs a x))
+
+  -- what was written is read back under the same keys
+  module _ (good : x .result .number ≡ 0) (λs : Lfts 2) (b : Dens λs read-k.ps) (y : Read λs b)
+      (lent : b .0 .now ≡ take (x .result .length) (roomLeft κs a x)) (keyed : b .1 .0 .now ≡ keysGiven κs a) where
+    pub c-written-read : y .result ≡ toldSlip (saidSlip (saysGiven κs a) (x .result .calls))
+    c-written-read = y .ensures ∙ ap toldSlip (ap₂ readOf lent keyed ∙ reads-back κs a x good)
+
+-- a slip whose number is 0 is accepted
+accepted-of : (s keys : List ℕ) → readOf s keys .number ≡ 0 → Accepted s keys
+unfolding refusedSlip
+accepted-of s keys e = go (eqb (firstOf (slipFaults s keys)) 0) refl
+  where
+    go : (b : Bool) → eqb (firstOf (slipFaults s keys)) 0 ≡ b → Accepted s keys
+    go true h = eqb-true (firstOf (slipFaults s keys)) 0 h
+    go false h = sym (ap (λ (r : slip.Slip). r .number) (refused-is s keys (eqb-false (firstOf (slipFaults s keys)) 0 h))) ∙ e
+
+-- an accepted slip, written again from the settings that it names and from what was read, is that slip
+module _ (λs : Lfts 2) (b : Dens λs read-k.ps) (y : Read λs b) (good : y .result .number ≡ 0)
+    (κs : Lfts 3) (a : Dens κs write-k.ps) (x : Written κs a) (again : Again (b .0 .now) (b .1 .0 .now) (contentsIn (y .result)) κs a) where
+  pub c-read-written : (x .result, roomLeft κs a x) ≡ writtenAs (b .0 .now) (y .result .calls) (roomGiven κs a)
+  unfolding toldSlip
+  c-read-written =
+      let told = y .ensures in
+      writes-again (b .0 .now) (b .1 .0 .now) (accepted-of (b .0 .now) (b .1 .0 .now) (sym (ap (λ (r : Slip). r .number) told) ∙ good)) κs a x
+      (subst (λ (r : Slip). Again (b .0 .now) (b .1 .0 .now) (contentsIn r) κs a) told again)
+      ∙ ap (λ (r : Slip). writtenAs (b .0 .now) (r .calls) (roomGiven κs a)) (sym told)

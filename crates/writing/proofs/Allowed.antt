@@ -1,0 +1,85 @@
+-- What is not refused: the lot, the amount and the date are as their rules ask (`sayable`). And what `lay_out` answers: the refusal, or the
+-- covered bytes first.
+-- Assumes nothing.
+use mathlib.Core.Path.{_≡_, refl, sym, ap, _∙_}
+use mathlib.Core.Bool.{Bool, true, false}
+use mathlib.Core.List.{List, [], _++_}
+use Prim.Native.Nat.{ℕ, _+_}
+use native.Mathlib.Omega.{arith}
+use lib.ListN.{length, take, length-append}
+use lib.Seq.{take-at}
+use lib.Dec.{eqb}
+use borrow.Author.Tests.{le-ltb, eqb-true, eqb-false, ne-eqb}
+use Rattle.bits.specs.Choice.{pick, firstOf}
+use Rattle.bits.proofs.Faults.{Clear, passed, done, Numbered, also, none, first-clear}
+use Rattle.fields.specs.Format.{expiryRow, lotRow, amountRow}
+use Rattle.fields.specs.Field.{outside, anyOutside, fieldOf}
+use Rattle.fields.specs.Date.{dateWrong}
+use Rattle.fields.specs.Layout.{amountWrong}
+use Rattle.fields.proofs.Formed.{Within, within, neither}
+use Rattle.writing.specs.declared.Covered.{Covered}
+use Rattle.writing.specs.Writing.{Says, valueWrong, saysFaults, expiryValue, amountValue, coveredOf, filledTo, layOut}
+
+pub record Sayable (x : Says) : Type 0 where
+  pub lot-length : Within 1 32 (length (x .lot))
+  pub lot-bytes : anyOutside 0x21 0x7e (x .lot) ≡ false
+  pub microlitres : Within 1 1000000 (x .amount)
+  pub date : dateWrong (x .year) (x .month) (x .day) ≡ false
+
+pub says-numbered : (x : Says) → Numbered (saysFaults x)
+unfolding saysFaults
+says-numbered x = also {k = 22} (omega arith) (also {k = 22} (omega arith) (also {k = 23} (omega arith) none))
+
+clear-says : (x : Says) → Clear (saysFaults x) → Sayable x
+unfolding saysFaults valueWrong
+clear-says x (passed e (passed f (passed g done))) =
+    let lot = neither _ _ e in
+    record {
+      lot-length = within 1 32 (length (x .lot)) (lot .0);
+      lot-bytes = lot .1;
+      microlitres = within 1 1000000 (x .amount) f;
+      date = g;
+    }
+
+pub sayable : (x : Says) → firstOf (saysFaults x) ≡ 0 → Sayable x
+sayable x e = clear-says x (first-clear (saysFaults x) (says-numbered x) e)
+
+-- and the other way round
+pub inside : (least most x : ℕ) → Within least most x → outside least most x ≡ false
+unfolding outside
+inside least most x h = rw (le-ltb x least (h .low), le-ltb most x (h .high)) refl
+
+pub unrefused : (x : Says) → Sayable x → firstOf (saysFaults x) ≡ 0
+unfolding saysFaults valueWrong firstOf pick
+unrefused x ok = rw (inside 1 32 (length (x .lot)) (ok .lot-length), ok .lot-bytes, inside 1 1000000 (x .amount) (ok .microlitres), ok .date) refl
+
+pub length-covered : (x : Says) → length (coveredOf x) ≡ 21 + length (x .lot)
+unfolding coveredOf expiryValue amountValue
+length-covered x = omega (arith, length-append (x .lot) (fieldOf amountRow (amountValue (x .amount))))
+
+-- ---- what is laid out
+
+module _ (x : Says) where
+  pub refused-out : ¬ (firstOf (saysFaults x) ≡ 0) → layOut x .refusal ≡ firstOf (saysFaults x)
+  unfolding layOut pick
+  refused-out some = rw (ne-eqb (firstOf (saysFaults x)) 0 some) refl
+
+  pub laid-none : firstOf (saysFaults x) ≡ 0 → layOut x .refusal ≡ 0
+  unfolding layOut pick
+  laid-none e = rw e refl
+
+  -- no refusal, the covered bytes' number, and they themselves first
+  pub laid-clear : layOut x .refusal ≡ 0 → firstOf (saysFaults x) ≡ 0
+  laid-clear e = go (eqb (firstOf (saysFaults x)) 0) refl
+    where
+      go : (b : Bool) → eqb (firstOf (saysFaults x)) 0 ≡ b → firstOf (saysFaults x) ≡ 0
+      go true h = eqb-true (firstOf (saysFaults x)) 0 h
+      go false h = sym (refused-out (eqb-false (firstOf (saysFaults x)) 0 h)) ∙ e
+
+  pub laid-first : firstOf (saysFaults x) ≡ 0 → take (layOut x .count) (layOut x .bytes) ≡ coveredOf x
+  unfolding layOut filledTo pick
+  laid-first e = rw e (take-at (coveredOf x) _ (length (coveredOf x)) refl)
+
+  pub laid-count : firstOf (saysFaults x) ≡ 0 → layOut x .count ≡ length (coveredOf x)
+  unfolding layOut pick
+  laid-count e = rw e refl

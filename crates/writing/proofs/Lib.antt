@@ -1,0 +1,4 @@
+pub mod Allowed
+pub mod ReadBack
+pub mod WriteBack
+pub mod Unique
