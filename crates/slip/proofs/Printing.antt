@@ -68,7 +68,7 @@ module _ (slip : List ℕ) (calls : ℕ) (room : List ℕ) where
 
   pub put-fits : (bytes : ℕ) (room′ : List ℕ) → length slip ≤ length room → bytes ≡ length slip → room′ ≡ slip ++ drop (length slip) room → (writtenSlip bytes calls, room′) ≡ putOf slip calls room
   unfolding putOf writtenBy firstOf pick
-  put-fits bytes room′ h e f = rw (le-ltb (length room) (length slip) h, e, f) refl
+  put-fits bytes room′ h e f = rw (le-ltb (length room) (length slip) h) (ap₂ (λ (n : ℕ) (r : List ℕ). (writtenSlip n calls, r)) e f)
 
 -- ---- from the answer of `make` to the slip's
 

@@ -30,12 +30,10 @@ fn value_wrong(row: fields::Row, value: &[u8]) -> bool
 fn refusal(year: usize, month: usize, day: usize, lot: &[u8], amount: usize) -> usize
     ensures { λ r. ⌜ r ≡ firstOf (saysFaults (said year month day (now (lot .entry)) amount)) ⌝ }
 {
-    let there = [
-        value_wrong(fields::LOT_ROW, lot),
-        fields::amount_wrong(amount),
-        fields::date_wrong(year, month, day),
-    ];
-    bits::first(&[22, 22, 23], &there)
+    let lot_wrong = value_wrong(fields::LOT_ROW, lot);
+    let amount_wrong = fields::amount_wrong(amount);
+    let date_wrong = fields::date_wrong(year, month, day);
+    bits::first(&[22, 22, 23], &[lot_wrong, amount_wrong, date_wrong])
 }
 
 // ---- the values of the fields

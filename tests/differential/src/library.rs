@@ -1,33 +1,10 @@
-//! The library's seven functions, six as the Rust binding calls them through C, `slipseal_write` as it is declared here, answering in
-//! the reference's types. Nothing is judged here: what comes is handed on, and what comes back is handed back, field by field.
+//! The library's seven functions, as the Rust binding calls them through C, answering in the reference's types. Nothing is judged
+//! here: what comes is handed on, and what comes back is handed back, field by field.
 
 use reference::session::Record;
 use reference::slip::{Says, Slip, Written};
 use reference::{Agreement, Answer};
 use slipseal::raw;
-
-#[repr(C)]
-struct RawWritten {
-    number: u64,
-    length: u64,
-    calls: u64,
-}
-
-extern "C" {
-    fn slipseal_write(
-        agreement: slipseal::Agreement,
-        keys: *const u8,
-        keys_len: usize,
-        year: usize,
-        month: usize,
-        day: usize,
-        lot: *const u8,
-        lot_len: usize,
-        amount: usize,
-        room: *mut u8,
-        room_len: usize,
-    ) -> RawWritten;
-}
 
 fn answer(a: raw::Answer) -> Answer {
     Answer { number: a.number, yes: a.yes, calls: a.calls }
@@ -78,10 +55,7 @@ pub fn read(slip: &[u8], keys: &[u8]) -> Slip {
 
 pub fn write(agreement: Agreement, keys: &[u8], says: &Says, room: &mut [u8]) -> Written {
     let Says { year, month, day, ref lot, amount } = *says;
-    let [year, month, day, amount] = [year, month, day, amount].map(|number| number as usize);
-    let (agreement, k, k_len) = (agreed(agreement), keys.as_ptr(), keys.len());
-    let (l, l_len, r, r_len) = (lot.as_ptr(), lot.len(), room.as_mut_ptr(), room.len());
-    // SAFETY: each pointer comes from a slice and goes with its length; the room is lent to this call alone.
-    let out = unsafe { slipseal_write(agreement, k, k_len, year, month, day, l, l_len, amount, r, r_len) };
-    Written { number: out.number, length: out.length, calls: out.calls }
+    let contents = slipseal::Contents { year, month, day, lot, amount };
+    let raw::Written { number, length, calls } = raw::write(agreed(agreement), keys, contents, room);
+    Written { number, length, calls }
 }

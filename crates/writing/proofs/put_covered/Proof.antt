@@ -23,7 +23,7 @@ returns c =
     let s = values .before .before .before .before in
     let a = s .args in
     let all : 14 + length (a .lot .now) + 7 ≡ 21 + length (a .lot .now) = omega arith in
-    put-three (fieldOf expiryRow (expiryValue (a .year) (a .month) (a .day))) (fieldOf lotRow (a .lot .now)) (fieldOf amountRow (amountValue (a .amount))) (a .room .now) (first .put-field .last .1 .1 .0) _ (second .put-field2 .last .1 .1 .0) (third .put-field3 .last .1 .1 .0) 11 (3 + length (a .lot .now)) (14 + length (a .lot .now)) 7
+    put-three (fieldOf expiryRow (expiryValue (a .year) (a .month) (a .day))) (fieldOf lotRow (a .lot .now)) (fieldOf amountRow (amountValue (a .amount))) (a .room .now) (first .put-field .last .1 .1 .0) _ (second .put-field2 .last .1 .1 .0) (third .put-field3 .last .1 .1 .0) 11 (3 + length (a .lot .now)) _ 7
     refl (omega arith) (omega arith) (omega (arith, s .pre)) (rw (values .before .expiry-value .ensures) at (first .put-field .ensures)) (second .put-field2 .ensures) refl
     (rw (values .amount-value .ensures) at (third .put-field3 .ensures))
     ∙ ap (λ (k : ℕ). coveredOf (said (a .year) (a .month) (a .day) (a .lot .now) (a .amount)) ++ drop k (a .room .now)) all
