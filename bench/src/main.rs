@@ -69,6 +69,9 @@ fn main() {
     agree_on_slip("slip", slip, key, 0);
     agree_on_slip("slip with a wrong seal", &wrong, key, 30);
     agree_on_slip("slip cut short", cut, key, 20);
+    let [written, expected] = work::written(key);
+    agree("slip written", written, expected);
+    agree("slip written as it is read", &written.0[..slip.len()], slip);
     println!("{}; {rounds} rounds of CPU time", report::machine());
     println!("All answers agree; the tags of 1 MiB are {} and {}.", hex(&tagged.0), hex(&cmac.0));
 
@@ -87,6 +90,7 @@ fn main() {
         work::slip_line("slips accepted a second", slip, key),
         work::slip_line("slips refused a second, one bit of the seal wrong", &wrong, key),
         work::slip_line("slips refused a second, the last byte cut off", cut, key),
+        work::write_line("slips written a second", key),
         work::make_line("tags of 16 bytes a second, algorithm 1", work::SHORT_CALLS, one, key, short, &[]),
         work::make_line(
             "tags of 16 bytes a second, algorithm 5 (CMAC), beside every peer",

@@ -1,10 +1,10 @@
 //! The measured work, each piece as the library, the baseline and, for CMAC, the peers do it: a tag in one call, a session, a slip
-//! read. Answers are turned into plain numbers, so that they can be compared.
+//! read, a slip written. Answers are turned into plain numbers, so that they can be compared.
 
 use crate::measure::{Line, Way};
 use crate::peer::Peer;
 use reference::{session, slip};
-use slipseal::{raw, Agreement};
+use slipseal::{raw, Agreement, Contents};
 use std::hint::black_box;
 
 pub const MESSAGE_BYTES: usize = 1 << 20;
@@ -69,6 +69,35 @@ pub fn baseline_slip(slip: &[u8], key: &[u8]) -> [u64; 8] {
     [s.number, s.year, s.month, s.day, s.amount, s.calls, s.lot_at, s.lot_len]
 }
 
+/// The slip of the example: what it says, and what is agreed on it.
+const SAYS: Contents<'_> = Contents { year: 2026, month: 11, day: 4, lot: b"A7", amount: 500 };
+const SEALED: Agreement = Agreement { algorithm: 5, padding: 4, m: 64 };
+
+/// The room at the end; number, length and calls.
+pub type Written = ([u8; 75], [u64; 3]);
+
+pub fn library_write(key: &[u8]) -> Written {
+    let mut room = [0; 75];
+    let w = raw::write(SEALED, key, black_box(SAYS), &mut room);
+    (room, [w.number, w.length, w.calls])
+}
+
+fn baseline_says() -> slip::Says {
+    let Contents { year, month, day, lot, amount } = SAYS;
+    slip::Says { year, month, day, lot: lot.to_vec(), amount }
+}
+
+pub fn baseline_write(key: &[u8], says: &slip::Says) -> Written {
+    let mut room = [0; 75];
+    let w = slip::write(of_baseline(SEALED), key, says, &mut room);
+    (room, [w.number, w.length, w.calls])
+}
+
+/// The slip as the library and as the baseline writes it.
+pub fn written(key: &[u8]) -> [Written; 2] {
+    [library_write(key), baseline_write(key, &baseline_says())]
+}
+
 /// A line of the table from the two ways to do its work.
 fn line<'a, T>(
     what: &'static str,
@@ -117,5 +146,12 @@ pub fn session_line<'a>(what: &'static str, key: &'a [u8], message: &'a [u8]) ->
 pub fn slip_line<'a>(what: &'static str, slip: &'a [u8], key: &'a [u8]) -> Line<'a> {
     let library = repeated(SHORT_CALLS, move || raw::read(black_box(slip), black_box(key)));
     let baseline = repeated(SHORT_CALLS, move || slip::read(black_box(slip), black_box(key)));
+    line(what, SHORT_CALLS, library, baseline)
+}
+
+pub fn write_line<'a>(what: &'static str, key: &'a [u8]) -> Line<'a> {
+    let says = baseline_says();
+    let library = repeated(SHORT_CALLS, move || library_write(black_box(key)));
+    let baseline = repeated(SHORT_CALLS, move || baseline_write(black_box(key), black_box(&says)));
     line(what, SHORT_CALLS, library, baseline)
 }

@@ -37,12 +37,12 @@ too-long a n h = go (row (algorithmAt a) .two)
     go false = ap not (ne-eqb n 16 (λ e. absurd (omega arith)))
 
 -- 4 at the latest, and up to it the keys are not looked at
-four-latest : (A : Agreement) (n : ℕ) (K : Keys) (fs : List Fault) → 32 < n
+pub four-latest : (A : Agreement) (n : ℕ) (K : Keys) (fs : List Fault) → 32 < n
     → firstOf (settingsFaults A n K ++ fs) ≡ firstOf (1 given algorithmWrong (A .algorithm) ∷ 2 given paddingWrong (A .algorithm) (A .padding) ∷ 3 given sizeWrong (A .algorithm) (A .m) ∷ 4 given true ∷ [])
 unfolding settingsFaults firstOf pick
 four-latest A n K fs h = rw (too-long (A .algorithm) n h) refl
 
-not-clear : (A : Agreement) (n : ℕ) (K : Keys) → 32 < n → ¬ Clear (settingsFaults A n K)
+pub not-clear : (A : Agreement) (n : ℕ) (K : Keys) → 32 < n → ¬ Clear (settingsFaults A n K)
 unfolding settingsFaults
 not-clear A n K h (passed e1 (passed e2 (passed e3 (passed e4 c)))) = true≢false (sym (too-long (A .algorithm) n h) ∙ e4)
 

@@ -7,4 +7,5 @@ pub mod Borders
 pub mod Printing
 pub mod RoundTrip
 pub mod PrintedAnswers
+pub mod EnoughPrinted
 pub mod Unique

@@ -6,7 +6,7 @@
 use mathlib.Core.Path.{_≡_, refl, sym, ap, ap₂, _∙_, subst}
 use mathlib.Core.Bool.{Bool, true, false, _||_}
 use mathlib.Core.List.{List, [], _∷_, _++_}
-use Prim.Native.Nat.{ℕ, zero, suc, _+_, _≤_}
+use Prim.Native.Nat.{ℕ, _+_, _≤_}
 use native.Mathlib.Omega.{arith}
 use lib.Dec.{eqb, ltb, leb}
 use lib.ListN.{length, take, drop}
@@ -14,20 +14,20 @@ use lib.Seq.{take-at, drop-drop}
 use denote.Ref.{ptr, now}
 use contract.Lifetimes.{Lfts}
 use borrow.Fn.Kinds.{Dens}
-use borrow.Author.Tests.{le-ltb, ltb-false, ne-eqb, eqb-true, eqb-false}
+use borrow.Author.Tests.{le-ltb, ltb-false, eqb-true, eqb-false}
 use Rattle.bits.specs.Choice.{pick, _given_, firstOf}
 use Rattle.bits.specs.Once.{Allowed}
-use Rattle.bits.proofs.Faults.{Every, all, with, every-append, every-first, Numbered, also, none, numbered-append, clear-append, first-clear, clear-first, first-append-clear, Clear, passed, done}
+use Rattle.bits.proofs.Faults.{all, with, every-append, every-first, Numbered, also, none, numbered-append, clear-append, first-clear, clear-first, first-append-clear, Clear, passed, done}
 use Rattle.mac.specs.Tag.{bytesFor}
 use Rattle.settings.specs.Faults.{settingsFaults}
 use Rattle.settings.specs.declared.Agreement.{Agreement}
 use Rattle.fields.specs.Field.{lengthOf, value}
-use Rattle.fields.specs.Layout.{lotAt, lotField, amountField}
+use Rattle.fields.specs.Layout.{lotAt, lotField}
 use Rattle.writing.specs.Writing.{Says, said, saysFaults}
 use Rattle.writing.proofs.Allowed.{says-numbered}
 use Rattle.writing.proofs.ReadBack.{saysOf}
 use Rattle.slip.specs.Part.{seen, partOf, lotPart}
-use Rattle.slip.specs.Slip.{agreementNamed, sealCalls, agreementFaults, slipFaults, contentsOf, acceptedSlip, readOf}
+use Rattle.slip.specs.Slip.{agreementNamed, sealCalls, agreementFaults, contentsOf, acceptedSlip, readOf}
 use Rattle.slip.specs.Printed.{slipOf, slipCalls, sealingFaults, writeFaults, writtenSlip, unwrittenSlip, writtenBy, writeOf}
 use Rattle.slip.specs.declared.Contents.{Contents}
 use Rattle.slip.specs.declared.Slip.{Slip}

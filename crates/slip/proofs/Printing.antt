@@ -10,8 +10,8 @@ use lib.ListN.{length, take, drop, length-append}
 use lib.Seq.{take-at}
 use lib.Dec.{eqb, ltb}
 use borrow.Author.Tests.{lt-ltb, le-ltb, eqb-true, eqb-false, ne-eqb}
-use Rattle.bits.specs.Choice.{pick, Fault, _given_, firstOf}
-use Rattle.bits.proofs.Choice.{hit, miss}
+use Rattle.bits.specs.Choice.{pick, _given_, firstOf}
+use Rattle.bits.proofs.Choice.{miss}
 use Rattle.bits.proofs.Faults.{first-append, first-append-clear}
 use Rattle.cipher.specs.Ciphers.{cipherAt}
 use Rattle.cipher.proofs.Laws.{sm4-width, lawful-at}

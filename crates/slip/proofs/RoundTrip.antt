@@ -5,7 +5,7 @@
 -- Assumes nothing.
 use mathlib.Core.Path.{_≡_, refl, sym, ap, ap₂, _∙_, subst}
 use mathlib.Core.Bool.{false, not}
-use mathlib.Core.List.{List, [], _∷_, _++_, append-nil}
+use mathlib.Core.List.{List, [], _++_, append-nil}
 use Prim.Native.Nat.{ℕ, zero, suc, _+_, _*_, _≤_, _<_}
 use native.Mathlib.Omega.{arith}
 use lib.ListN.{length, take, drop, getD}
@@ -30,16 +30,16 @@ use Rattle.fields.proofs.Formed.{any-byte}
 use Rattle.fields.proofs.Laid.{LaidOut, layout-numbered}
 use Rattle.fields.proofs.Written.{written-value}
 use Rattle.fields.proofs.Whole.{covered-then-seal}
-use Rattle.writing.specs.Writing.{Says, said, saysFaults, coveredOf}
+use Rattle.writing.specs.Writing.{Says, saysFaults, coveredOf}
 use Rattle.writing.proofs.Allowed.{Sayable, sayable, unrefused, length-covered}
 use Rattle.writing.proofs.ReadBack.{saysOf, seal-back, covered-back, covered-all, says-back, lot-value-back, lot-length-back, lot-at-back, layout-back}
-use Rattle.writing.proofs.WriteBack.{sayable-again, written-again, covered-again}
+use Rattle.writing.proofs.WriteBack.{sayable-again, covered-again}
 use Rattle.slip.specs.Slip.{sealValue, agreementNamed, tagNamed, sealDefined, sealCalls, sealWrong, agreementFaults, faultsUnder, slipFaults, contentsOf, acceptedSlip, readOf}
 use Rattle.slip.specs.Printed.{sealedBy, slipOf, slipCalls}
 use Rattle.slip.specs.declared.Contents.{Contents}
 use Rattle.slip.specs.declared.Slip.{Slip}
 use Rattle.slip.proofs.Judged.{Believed, believed, agreement-numbered}
-use Rattle.slip.proofs.Whole.{Accepted, sealOf, seal-is}
+use Rattle.slip.proofs.Whole.{Accepted, seal-is}
 use Rattle.slip.proofs.Numbers.{accepted-is}
 use Rattle.slip.proofs.Printing.{length-seal, length-sealed}
 

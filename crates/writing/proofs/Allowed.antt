@@ -1,9 +1,8 @@
 -- What is not refused: the lot, the amount and the date are as their rules ask (`sayable`). And what `lay_out` answers: the refusal, or the
 -- covered bytes first.
 -- Assumes nothing.
-use mathlib.Core.Path.{_≡_, refl, sym, ap, _∙_}
+use mathlib.Core.Path.{_≡_, refl, sym, _∙_}
 use mathlib.Core.Bool.{Bool, true, false}
-use mathlib.Core.List.{List, [], _++_}
 use Prim.Native.Nat.{ℕ, _+_}
 use native.Mathlib.Omega.{arith}
 use lib.ListN.{length, take, length-append}
@@ -12,10 +11,9 @@ use lib.Dec.{eqb}
 use borrow.Author.Tests.{le-ltb, eqb-true, eqb-false, ne-eqb}
 use Rattle.bits.specs.Choice.{pick, firstOf}
 use Rattle.bits.proofs.Faults.{Clear, passed, done, Numbered, also, none, first-clear}
-use Rattle.fields.specs.Format.{expiryRow, lotRow, amountRow}
+use Rattle.fields.specs.Format.{amountRow}
 use Rattle.fields.specs.Field.{outside, anyOutside, fieldOf}
 use Rattle.fields.specs.Date.{dateWrong}
-use Rattle.fields.specs.Layout.{amountWrong}
 use Rattle.fields.proofs.Formed.{Within, within, neither}
 use Rattle.writing.specs.declared.Covered.{Covered}
 use Rattle.writing.specs.Writing.{Says, valueWrong, saysFaults, expiryValue, amountValue, coveredOf, filledTo, layOut}

@@ -2,21 +2,21 @@
 -- covered bytes end, and in each field the value that was written; where nothing refused it, the date and the amount too (`says-back`).
 -- With a seal of an allowed length after them, the fields have no fault (`layout-back`).
 -- Assumes nothing.
-use mathlib.Core.Path.{_≡_, refl, sym, ap, ap₂, _∙_, subst}
+use mathlib.Core.Path.{_≡_, refl, sym, ap, ap₂, _∙_}
 use mathlib.Core.Bool.{Bool, true, false, _||_}
 use mathlib.Core.List.{List, [], _∷_, _++_, map, append-assoc, append-nil}
 use Prim.Native.Nat.{ℕ, _+_, _-_, _*_, _/_, _%_, _≤_, _<_}
-use lib.Dec.{eqb, ltb}
+use lib.Dec.{eqb}
 use native.Mathlib.Omega.{arith}
-use lib.ListN.{length, take, drop, getD, length-append, length-drop}
+use lib.ListN.{length, take, drop, length-append, length-drop}
 use lib.Seq.{take-at}
 use borrow.Author.Tests.{le-ltb}
-use Rattle.bits.specs.Choice.{pick, Fault, _given_, firstOf}
-use Rattle.bits.proofs.Faults.{Numbered, first-append-clear}
+use Rattle.bits.specs.Choice.{pick, _given_, firstOf}
+use Rattle.bits.proofs.Faults.{first-append-clear}
 use Rattle.fields.specs.Format.{expiryRow, lotRow, amountRow, sealRow}
 use Rattle.fields.specs.Field.{anyOutside, twoBytes, lengthOf, value, endOf, fieldFaults, fieldOf}
 use Rattle.fields.specs.Date.{digitAt, twoDigits, yearOf, monthOf, dayOf, leap, dateWrong}
-use Rattle.fields.specs.Layout.{lotAt, amountAt, sealAt, lotField, amountField, sealField, covered, amountOf, amountWrong, expiryFaults, lotFaults, amountFaults, sealFaults, layoutFaults}
+use Rattle.fields.specs.Layout.{lotAt, sealAt, lotField, amountField, sealField, covered, amountOf, amountWrong, expiryFaults, lotFaults, amountFaults, sealFaults, layoutFaults}
 use Rattle.fields.proofs.Inside.{lot-there, seal-there, seal-long}
 use Rattle.fields.proofs.Whole.{after-lot, after-amount}
 use Rattle.fields.proofs.Written.{written-length, written-value, written-after, written-clear}

@@ -1,17 +1,16 @@
 -- `write` meets its contract: the refusal of what is to be said, or what is written under the agreement (`write-refused`, `write-written`).
 -- Assumes nothing.
-use mathlib.Core.Path.{_≡_, refl, sym, ap, _∙_}
+use mathlib.Core.Path.{_≡_, sym, ap, _∙_}
 use mathlib.Core.List.{List}
 use Prim.Native.Nat.{ℕ, _≤_}
 use native.Mathlib.Omega.{arith}
 use lib.ListN.{length, take, length-take}
 use Rattle.bits.specs.Choice.{firstOf}
-use Rattle.fields.specs.Layout.{covered}
 use Rattle.writing.specs.Writing.{Says, said, saysFaults, coveredOf, layOut}
 use Rattle.writing.specs.declared.Covered.{Covered}
 use Rattle.writing.proofs.Allowed.{Sayable, sayable, length-covered, refused-out, laid-none, laid-clear, laid-first, laid-count}
 use Rattle.writing.proofs.ReadBack.{covered-all}
-use Rattle.slip.specs.Printed.{unwrittenSlip, writeUnder, writeOf}
+use Rattle.slip.specs.Printed.{unwrittenSlip, writeUnder}
 use Rattle.slip.specs.declared.Written.{Written}
 use Rattle.slip.proofs.Printing.{write-refused, write-written}
 use borrow.Author.Needs.{needs}

@@ -4,11 +4,10 @@ use mathlib.Core.Path.{_≡_, refl, sym, ap, _∙_}
 use mathlib.Core.List.{List, [], _∷_}
 use mathlib.Core.Logic.{⊎-elim}
 use native.Mathlib.Omega.{arith}
-use Prim.Native.Nat.{ℕ, _*_}
+use Prim.Native.Nat.{ℕ}
 use lib.ListN.{length}
 use denote.Enum.Declared.{tagOf}
 use types.Run.{OneOf}
-use Rattle.bits.specs.Choice.{firstOf}
 use Rattle.keys.specs.Given.{keysOf}
 use Rattle.settings.specs.Faults.{settingsRefusal}
 use Rattle.settings.proofs.Sound.{sound-size, sound-bytes}
@@ -16,8 +15,6 @@ use Rattle.settings.proofs.Outcome.{the-type}
 use Rattle.settings.specs.declared.Agreement.{Agreement}
 use Rattle.settings.specs.declared.Outcome.{Outcome}
 use Rattle.settings.specs.declared.Outcome.the-variants.{Accepted, Made, Yes, No, Refused}
-use Rattle.tag.specs.OneCall.{makeOf}
-use Rattle.slip.specs.Slip.{agreementFaults}
 use Rattle.slip.specs.Printed.{unwrittenSlip, writeUnder}
 use Rattle.slip.specs.declared.Written.{Written}
 use Rattle.slip.proofs.Printing.{sealing, sealing-is, made-sound}

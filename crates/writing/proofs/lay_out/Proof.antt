@@ -1,12 +1,12 @@
 -- `lay_out` meets its contract: the refusal, or the bytes over zeros; what is not refused has a lot of 32 bytes at most (`lot-short`).
 -- Assumes nothing.
 use mathlib.Core.Path.{_≡_, refl, sym, ap, _∙_}
-use mathlib.Core.List.{List, [], _++_}
+use mathlib.Core.List.{List, _++_}
 use Prim.Native.Nat.{ℕ, _+_, _≤_}
 use native.Mathlib.Omega.{arith}
 use lib.ListN.{length, drop, replicate}
 use borrow.Author.Tests.{eq-eqb, ne-eqb}
-use Rattle.bits.specs.Choice.{pick, firstOf}
+use Rattle.bits.specs.Choice.{firstOf}
 use Rattle.bits.proofs.Choice.{hit, miss}
 use Rattle.bits.proofs.Lists.{drop-replicate}
 use Rattle.writing.specs.Writing.{Says, said, saysFaults, coveredOf, filledTo, layOut}

@@ -1,7 +1,7 @@
 -- `put_covered` meets its contract: each field is put where the one before it ends (`put-three`).
 -- Assumes nothing.
 use mathlib.Core.Path.{_≡_, refl, ap, _∙_}
-use mathlib.Core.List.{List, _++_}
+use mathlib.Core.List.{_++_}
 use native.Mathlib.Omega.{arith}
 use Prim.Native.Nat.{ℕ, _+_}
 use lib.ListN.{length, drop}

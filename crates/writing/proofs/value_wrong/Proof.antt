@@ -1,6 +1,6 @@
 -- `value_wrong` meets its contract: the two tests.
 -- Assumes nothing.
-use mathlib.Core.Path.{sym, ap, _∙_}
+use mathlib.Core.Path.{sym, _∙_}
 use Rattle.writing.specs.Writing.{valueWrong}
 use borrow.Author.Needs.{needs}
 use Rattle.writing.proofs.value_wrong.Statement.{statement}
