@@ -1,7 +1,10 @@
-// What slipcheck answers, by the functions that it calls itself: with no argument; then on the stored keys and slips, each answer after
-// a line with the names of both files.
+// What slipcheck and slipprint answer, by the functions that they call themselves: with numbers of arguments that neither takes; then
+// slipcheck on the stored keys and slips, each answer after a line with the names of both files; then slipprint (pairs.rt).
+mod pairs;
+
 fn main() {
     tool::run();
+    tool::run_print();
     answer(b"key", b"slip");
     answer(b"key_with_blanks", b"two_keys");
     answer(b"key", b"turned");
@@ -13,6 +16,7 @@ fn main() {
     answer(b"key", b".");
     answer(b".", b"slip");
     answer(b"key_empty", b"vectors");
+    pairs::run();
 }
 
 fn answer(keys: &[u8], name: &[u8]) {

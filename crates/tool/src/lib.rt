@@ -1,11 +1,12 @@
-// The program slipcheck, all of its input and output: it reads the keys from standard input and one slip from a file, and says in
-// words whether the slip is to be believed. It tells everything on standard output, since a program here has no exit status.
+// All input and output of the programs slipcheck and slipprint (printing.rt). They tell everything on standard output, since a program
+// here has no exit status. slipcheck reads the keys from standard input and one slip from a file, and says in words whether the slip
+// is to be believed:
 //
 //     slipcheck FILE       accepted and what the slip says; or refused, the number and its meaning; or error and what is wrong
 //     slipcheck vectors    the tags that the standard prints, made anew and compared
 //
-// The argument is looked at first, then the keys, then the file. The program's own buffers, with those of the calls it makes on the
-// system, would stay far below 64 KiB even if they were all in use together:
+// The argument is looked at first, then the keys, then the file. Its own buffers, with those of the calls it makes on the system, would
+// stay far below 64 KiB even if they were all in use together; so would slipprint's, 12983 bytes:
 //
 //     4096   the file's name
 //     4096   its copy in os::open_read
@@ -18,11 +19,16 @@
 //    -----
 //    13553   bytes in all
 mod hex;
+mod new_file;
+mod numbers;
+mod printing;
 mod slip_file;
 mod typed_keys;
 mod vectors;
 mod words;
 
+pub use printing::answer_print;
+pub use printing::run_print;
 use words::print;
 
 pub fn run() {
@@ -61,18 +67,10 @@ pub fn answer(typed: i32, name: &[u8]) {
 
 fn check_file(typed: i32, name: &[u8]) {
     let mut room = [0u8; 33];
-    match typed_keys::read(typed, &mut room) {
+    let keys = typed_keys::read(typed, &mut room);
+    match keys {
         typed_keys::Typed::Bytes(count) => slip_file::check(name, first(&room, count)),
-        typed_keys::Typed::Half(_, _) => print(
-            b"error: the keys have an odd number of hex digits\n",
-        ),
-        typed_keys::Typed::Strange => print(
-            b"error: the keys hold a character that is no hex digit\n",
-        ),
-        typed_keys::Typed::Unread(reason) => words::print_failure(
-            b"the keys cannot be read",
-            reason,
-        ),
+        _ => typed_keys::print_error(keys),
     }
 }
 
@@ -82,4 +80,12 @@ pub(crate) fn first(s: &[u8], count: usize) -> &[u8] {
         return &s[0..count];
     }
     s
+}
+
+// So many bytes from a place, or none where they are not there.
+pub(crate) fn part(s: &[u8], at: usize, count: usize) -> &[u8] {
+    if s.len() < at {
+        return &s[0..0];
+    }
+    first(&s[at..], count)
 }

@@ -57,18 +57,14 @@ fn print_answer(bytes: &[u8], keys: &[u8]) {
 }
 
 fn print_accepted(contents: slip::Contents, lot: &[u8], calls: usize) {
-    words::print_both(b"accepted\nexpiry: ", contents.year);
-    print_two_digits(contents.month);
-    print_two_digits(contents.day);
-    print(b"\nlot: ");
-    print(lot);
-    words::print_both(b"\namount: ", contents.amount);
-    words::print_both(b" microlitres\ncipher calls: ", calls);
+    print(b"accepted\n");
+    words::print_contents(
+        contents.year,
+        contents.month,
+        contents.day,
+        lot,
+        contents.amount,
+    );
+    words::print_both(b"cipher calls: ", calls);
     print(b"\n");
-}
-
-// A number below 100 in two digits, after a hyphen.
-fn print_two_digits(n: usize) {
-    words::print_both(b"-", n / 10);
-    words::print_number(n % 10);
 }

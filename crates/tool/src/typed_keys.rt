@@ -2,6 +2,8 @@
 // them. Input of any length and any bytes is answered: it is read through a small buffer to its end, or to its first strange
 // character, which settles the answer.
 use crate::hex;
+use crate::words;
+use words::print;
 
 // What has been typed so far.
 pub(crate) enum Typed {
@@ -115,4 +117,14 @@ fn kept(room: &mut [u8], count: usize, byte: u8) -> usize {
         return count + 1;
     }
     count
+}
+
+// Says why what was typed is no keys.
+pub(crate) fn print_error(typed: Typed) {
+    match typed {
+        Typed::Bytes(_) => (),
+        Typed::Half(_, _) => print(b"error: the keys have an odd number of hex digits\n"),
+        Typed::Strange => print(b"error: the keys hold a character that is no hex digit\n"),
+        Typed::Unread(reason) => words::print_failure(b"the keys cannot be read", reason),
+    }
 }

@@ -4,6 +4,7 @@
 ghost use Prim.Native.Nat.{_≤_};
 use crate::first;
 use crate::hex;
+use crate::part;
 use crate::words;
 use words::print;
 
@@ -81,14 +82,6 @@ fn run_rows(rows: &[u8]) -> usize {
         i += 1;
     }
     right
-}
-
-// So many bytes from a place, or none where they are not there.
-fn part(s: &[u8], at: usize, count: usize) -> &[u8] {
-    if s.len() < at {
-        return &s[0..0];
-    }
-    first(&s[at..], count)
 }
 
 fn run_row(row: &[u8]) -> bool {

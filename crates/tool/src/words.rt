@@ -1,4 +1,4 @@
-// What is printed: the meaning of each refusal, which is said here and nowhere else in the program, and the system's reasons.
+// What is printed: the contents of a slip, the meaning of each refusal, which is said here and nowhere else, and the system's reasons.
 // docs/ANSWERS.md has the same words for the refusals, with what to do about each.
 
 pub(crate) fn print(text: &[u8]) {
@@ -12,6 +12,23 @@ pub(crate) fn print_number(n: usize) {
 pub(crate) fn print_both(text: &[u8], n: usize) {
     print(text);
     print_number(n);
+}
+
+// What a slip says.
+pub(crate) fn print_contents(year: usize, month: usize, day: usize, lot: &[u8], amount: usize) {
+    print_both(b"expiry: ", year);
+    print_two_digits(month);
+    print_two_digits(day);
+    print(b"\nlot: ");
+    print(lot);
+    print_both(b"\namount: ", amount);
+    print(b" microlitres\n");
+}
+
+// A number below 100 in two digits, after a hyphen.
+fn print_two_digits(n: usize) {
+    print_both(b"-", n / 10);
+    print_number(n % 10);
 }
 
 pub(crate) fn print_refusal(number: usize) {
@@ -84,27 +101,17 @@ pub(crate) fn print_failure(what: &[u8], reason: i32) {
 }
 
 fn print_reason(reason: i32) {
-    if reason == libc::ENOENT {
-        print(b"no such file");
-        return;
+    match reason {
+        libc::ENOENT => print(b"no such file"),
+        libc::EACCES => print(b"permission denied"),
+        libc::EEXIST => print(b"there is one of that name already, and it stays as it was"),
+        libc::EISDIR => print(b"it is a directory"),
+        libc::ENOTDIR => print(b"a part of its path is not a directory"),
+        libc::ENAMETOOLONG => print(b"its name is too long"),
+        libc::ENOSPC => print(b"no space is left for it"),
+        libc::EROFS => print(b"nothing can be written there"),
+        _ => print_both(b"the system's error ", size_of_error(reason)),
     }
-    if reason == libc::EACCES {
-        print(b"permission denied");
-        return;
-    }
-    if reason == libc::EISDIR {
-        print(b"it is a directory");
-        return;
-    }
-    if reason == libc::ENOTDIR {
-        print(b"a part of its path is not a directory");
-        return;
-    }
-    if reason == libc::ENAMETOOLONG {
-        print(b"its name is too long");
-        return;
-    }
-    print_both(b"the system's error ", size_of_error(reason));
 }
 
 // The system's errors are numbers from 1.

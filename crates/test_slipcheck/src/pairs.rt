@@ -1,0 +1,118 @@
+// slipprint on words of this program's own arguments, then slipcheck on the file that it was to make. The first three arguments are
+// words for slipprint to be called with alone; after them eight make a row: the file of the typed keys, and slipprint's seven words.
+ghost use Prim.Native.Nat.{_≤_};
+ghost use Rattle.io.specs.Counts.{Counts};
+
+const FIRST_ROW: usize = 4;
+
+// What a slip's file can have, and one byte more.
+const MOST: usize = 76;
+
+pub(crate) fn run() {
+    not_seven(1, 0);
+    not_seven(1, 1);
+    not_seven(2, 1);
+    not_seven(3, 1);
+    not_seven(FIRST_ROW + 1, 6);
+    not_seven(FIRST_ROW + 1, 8);
+    rows();
+    compare(b"printed", b"slip");
+    compare(b"two", b"two_keys");
+    compare(b"zeros", b"slip");
+}
+
+// Other numbers of words than seven: misuse, or a word that asks how the program is used.
+fn not_seven(at: usize, count: usize)
+    requires { ⌜ (at ≤ 65536) × (count ≤ 8) ⌝ }
+{
+    print_words(at, count);
+    tool::answer_print(libc::STDIN_FILENO, at, count);
+}
+
+// As many rows as there are, of at most 512.
+fn rows() {
+    let count = os::arg_count();
+    let mut at = FIRST_ROW;
+    while at < 4096 && at + 7 < count {
+        pair(at);
+        at += 8;
+    }
+}
+
+fn pair(at: usize)
+    requires { ⌜ at ≤ 4096 ⌝ }
+{
+    print_words(at, 8);
+    let mut room = io::buffer();
+    let n = os::arg(at, &mut room);
+    let typed = os::open_read(&room[..n]);
+    tool::answer_print(typed, at + 1, 7);
+    libc::close(typed);
+    print(b"--\n");
+    let again = os::open_read(&room[..n]);
+    check_name(again, at + 1);
+    libc::close(again);
+}
+
+fn check_name(typed: i32, at: usize) {
+    let mut name = io::buffer();
+    let n = os::arg(at, &mut name);
+    tool::answer(typed, &name[..n]);
+}
+
+// A line with so many arguments from one on.
+fn print_words(at: usize, count: usize)
+    requires { ⌜ (at ≤ 65536) × (count ≤ 8) ⌝ }
+{
+    print(b"==");
+    let mut i = 0;
+    while i < count {
+        print_word(at + i);
+        i += 1;
+    }
+    print(b"\n");
+}
+
+// A blank and an argument, of a long one the beginning.
+fn print_word(at: usize) {
+    let mut room = [0u8; 40];
+    let n = os::arg(at, &mut room);
+    let wrong = os::errno();
+    print(b" ");
+    if wrong == libc::ENAMETOOLONG {
+        print(&room);
+        print(b"..");
+        return;
+    }
+    print(&room[..n]);
+}
+
+// Whether two slips' files have the same bytes.
+fn compare(name: &[u8], other: &[u8]) {
+    let mut room = [0u8; MOST];
+    let n = read(name, &mut room);
+    let mut other_room = [0u8; MOST];
+    let other_n = read(other, &mut other_room);
+    print(b"== ");
+    print(name);
+    print(b" and ");
+    print(other);
+    if check::same(&room[..n], &other_room[..other_n]) {
+        print(b" are the same\n");
+        return;
+    }
+    print(b" differ\n");
+}
+
+fn read(name: &[u8], room: &mut [u8]) -> usize
+    ensures { λ r. ⌜ Counts r (now (room .exit)) ⌝ }
+{
+    let file = os::open_read(name);
+    let n = io::read_full(file, room);
+    libc::close(file);
+    n
+}
+
+fn print(text: &[u8]) {
+    io::write_all(libc::STDOUT_FILENO, text);
+}

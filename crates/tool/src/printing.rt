@@ -1,0 +1,232 @@
+// The program slipprint, which prints a slip of our own: it reads the keys from standard input, seals what its arguments say, and writes
+// the slip into a new file. It never writes over a file, for a printed slip is evidence.
+//
+//     slipprint FILE DATE LOT AMOUNT ALGORITHM PADDING M    printed and what the slip says; or refused, or error, as slipcheck
+//     slipprint -h                                          how it is used; also --help
+//
+// The arguments are looked at first, in their order, then the keys, then the library's answer, then the file: so a refusal leaves no
+// new file, nor does an error. The program's own buffers, with those of the calls it makes on the system:
+//
+//     4096   the file's name
+//     4096   its copy in os::create or os::unlink
+//     4096   io::write_all, where the system takes only a part of what is written
+//      260   the amount, the algorithm, the padding and M, 65 each
+//      256   a chunk of the typed keys
+//       75   the slip
+//       33   the key bytes
+//       33   the lot
+//       20   a number's digits
+//       11   the date
+//        7   a word alone
+//    -----
+//    12983   bytes in all
+ghost use Prim.Native.Nat.{_≤_};
+use crate::first;
+use crate::new_file;
+use crate::numbers;
+use crate::typed_keys;
+use crate::words;
+use words::print;
+
+pub fn run_print() {
+    let count = os::arg_count();
+    if count == 0 {
+        print_misuse();
+        return;
+    }
+    answer_print(libc::STDIN_FILENO, 1, count - 1);
+}
+
+// What the program says where its words are so many arguments from this one on, and the keys are typed into this open file.
+pub fn answer_print(typed: i32, at: usize, count: usize) {
+    // No program has so many arguments; their numbers are added to below.
+    if 65536 < at {
+        print_misuse();
+        return;
+    }
+    if count == 1 {
+        answer_one(at);
+        return;
+    }
+    if count != 7 {
+        print_misuse();
+        return;
+    }
+    let mut name = io::buffer();
+    let n = os::arg(at, &mut name);
+    let wrong = os::errno();
+    if wrong != 0 {
+        words::print_failure(b"the file cannot be made", wrong);
+        return;
+    }
+    answer_six(typed, &name[..n], at + 1);
+}
+
+fn print_usage() {
+    print(b"slipprint FILE DATE LOT AMOUNT ALGORITHM PADDING M\n");
+    print(b"    writes a sealed slip into a new file; the keys are hex digits on standard input\n");
+    print(
+        b"    as in: slipprint slip 2026-11-04 A7 500 5 4 64 (500 microlitres, a tag of 64 bits)\n",
+    );
+}
+
+fn print_misuse() {
+    print(b"error: give seven arguments\n");
+    print_usage();
+}
+
+// A word alone may ask how the program is used.
+fn answer_one(at: usize) {
+    let mut room = [0u8; 7];
+    let n = word(at, &mut room);
+    if asks_for_help(first(&room, n)) {
+        print_usage();
+        return;
+    }
+    print_misuse();
+}
+
+fn asks_for_help(word: &[u8]) -> bool {
+    if check::same(word, b"-h") {
+        return true;
+    }
+    check::same(word, b"--help")
+}
+
+// Puts an argument into the room and gives its length. One that is too long fills the room, so a room has a byte more than is good.
+fn word(at: usize, room: &mut [u8]) -> usize {
+    let n = os::arg(at, room);
+    if os::errno() == libc::ENAMETOOLONG {
+        return room.len();
+    }
+    n
+}
+
+// The words after the file's name.
+fn answer_six(typed: i32, name: &[u8], at: usize)
+    requires { ⌜ at ≤ 65537 ⌝ }
+{
+    let mut date = [0u8; 11];
+    let date_length = word(at, &mut date);
+    let mut lot = [0u8; 33];
+    let lot_length = word(at + 1, &mut lot);
+    let mut amount = [0u8; 65];
+    let amount_length = word(at + 2, &mut amount);
+    let mut algorithm = [0u8; 65];
+    let algorithm_length = word(at + 3, &mut algorithm);
+    let mut padding = [0u8; 65];
+    let padding_length = word(at + 4, &mut padding);
+    let mut m = [0u8; 65];
+    let m_length = word(at + 5, &mut m);
+    print_slip(
+        typed,
+        name,
+        first(&date, date_length),
+        first(&lot, lot_length),
+        first(&amount, amount_length),
+        first(&algorithm, algorithm_length),
+        first(&padding, padding_length),
+        first(&m, m_length),
+    );
+}
+
+// The words as they are, each judged as far as it can be without keys.
+fn print_slip(
+    typed: i32,
+    name: &[u8],
+    date: &[u8],
+    lot: &[u8],
+    amount: &[u8],
+    algorithm: &[u8],
+    padding: &[u8],
+    m: &[u8],
+) {
+    if name.len() == 0 {
+        print(b"error: the file's name is empty\n");
+        return;
+    }
+    if numbers::date_wrong(date) {
+        print(b"error: the date is not written as 2026-11-04\n");
+        return;
+    }
+    if is_no_number(b"the amount", amount) {
+        return;
+    }
+    if is_no_number(b"the algorithm", algorithm) {
+        return;
+    }
+    if is_no_number(b"the padding", padding) {
+        return;
+    }
+    if is_no_number(b"M", m) {
+        return;
+    }
+    let agreed = settings::Agreement {
+        algorithm: numbers::number(algorithm),
+        padding: numbers::number(padding),
+        m: numbers::number(m),
+    };
+    print_typed(typed, name, agreed, date, lot, numbers::number(amount));
+}
+
+// Whether a word is no number; if so, it is said.
+fn is_no_number(what: &[u8], word: &[u8]) -> bool {
+    if numbers::number_wrong(word) {
+        print(b"error: ");
+        print(what);
+        print(b" is not written in 1 to 64 digits\n");
+        return true;
+    }
+    false
+}
+
+// The numbers that were asked for, under the keys that are typed.
+fn print_typed(
+    typed: i32,
+    name: &[u8],
+    agreed: settings::Agreement,
+    date: &[u8],
+    lot: &[u8],
+    amount: usize,
+) {
+    let mut room = [0u8; 33];
+    let keys = typed_keys::read(typed, &mut room);
+    match keys {
+        typed_keys::Typed::Bytes(count) => print_sealed(
+            name,
+            agreed,
+            first(&room, count),
+            date,
+            lot,
+            amount,
+        ),
+        _ => typed_keys::print_error(keys),
+    }
+}
+
+// The slip, made first and then written.
+fn print_sealed(
+    name: &[u8],
+    agreed: settings::Agreement,
+    keys: &[u8],
+    date: &[u8],
+    lot: &[u8],
+    amount: usize,
+) {
+    let year = numbers::year(date);
+    let month = numbers::month(date);
+    let day = numbers::day(date);
+    let mut room = [0u8; 75];
+    let written = slip::write(agreed, keys, year, month, day, lot, amount, &mut room);
+    if written.number != 0 {
+        words::print_refusal(written.number);
+        return;
+    }
+    if new_file::write(name, first(&room, written.length)) {
+        print(b"printed\n");
+        words::print_contents(year, month, day, lot, amount);
+        words::print_both(b"length: ", written.length);
+        words::print_both(b" bytes\ncipher calls: ", written.calls);
+        print(b"\n");
+    }
+}
