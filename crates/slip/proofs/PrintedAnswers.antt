@@ -24,7 +24,7 @@ use Rattle.settings.specs.declared.Agreement.{Agreement}
 use Rattle.fields.specs.Field.{lengthOf, value}
 use Rattle.fields.specs.Layout.{lotAt, lotField}
 use Rattle.writing.specs.Writing.{Says, said, saysFaults}
-use Rattle.writing.proofs.Allowed.{says-numbered}
+use Rattle.writing.proofs.Sayable.{says-numbered}
 use Rattle.writing.proofs.ReadBack.{saysOf}
 use Rattle.slip.specs.Part.{seen, partOf, lotPart}
 use Rattle.slip.specs.Slip.{agreementNamed, sealCalls, agreementFaults, contentsOf, acceptedSlip, readOf}

@@ -35,7 +35,7 @@ use Rattle.fields.specs.Format.{sealRow}
 use Rattle.fields.specs.Layout.{covered}
 use Rattle.fields.specs.declared.Row.{Row}
 use Rattle.writing.specs.Writing.{Says, saysFaults, coveredOf}
-use Rattle.writing.proofs.Allowed.{says-numbered}
+use Rattle.writing.proofs.Sayable.{says-numbered}
 use Rattle.slip.specs.Slip.{sealValue, sealDefined, sealCalls, agreementFaults}
 use Rattle.slip.specs.Printed.{sealedBy, sealHead, sealingFaults, writtenSlip, unwrittenSlip, writtenBy, putOf, writeUnder, slipOf, slipCalls, writeFaults, writeOf}
 use Rattle.slip.specs.declared.Written.{Written}

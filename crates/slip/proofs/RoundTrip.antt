@@ -31,7 +31,7 @@ use Rattle.fields.proofs.Laid.{LaidOut, layout-numbered}
 use Rattle.fields.proofs.Written.{written-value}
 use Rattle.fields.proofs.Whole.{covered-then-seal}
 use Rattle.writing.specs.Writing.{Says, saysFaults, coveredOf}
-use Rattle.writing.proofs.Allowed.{Sayable, sayable, unrefused, length-covered}
+use Rattle.writing.proofs.Sayable.{Sayable, sayable, unrefused, length-covered}
 use Rattle.writing.proofs.ReadBack.{saysOf, seal-back, covered-back, covered-all, says-back, lot-value-back, lot-length-back, lot-at-back, layout-back}
 use Rattle.writing.proofs.WriteBack.{sayable-again, covered-again}
 use Rattle.slip.specs.Slip.{sealValue, agreementNamed, tagNamed, sealDefined, sealCalls, sealWrong, agreementFaults, faultsUnder, slipFaults, contentsOf, acceptedSlip, readOf}

@@ -1,4 +1,4 @@
-pub mod Allowed
+pub mod Sayable
 pub mod ReadBack
 pub mod WriteBack
 pub mod Unique

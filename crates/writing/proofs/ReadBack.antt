@@ -24,7 +24,7 @@ use Rattle.fields.proofs.Dates.{Real, real-date, calendar}
 use Rattle.fields.proofs.Formed.{Within, field-numbered, end-whole}
 use Rattle.fields.proofs.Laid.{expiry-numbered, lot-numbered, amount-numbered}
 use Rattle.fields.specs.declared.Row.{Row}
-use Rattle.writing.proofs.Allowed.{Sayable, inside}
+use Rattle.writing.proofs.Sayable.{Sayable, inside}
 use Rattle.writing.specs.Writing.{Says, said, digitOf, expiryValue, amountValue, coveredOf}
 
 -- ---- numbers of two digits and of four

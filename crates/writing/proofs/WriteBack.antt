@@ -17,7 +17,7 @@ use Rattle.fields.proofs.Formed.{Within, Formed, within-all}
 use Rattle.fields.proofs.Laid.{LaidOut}
 use Rattle.fields.proofs.Whole.{value-long, field-first, four-fields}
 use Rattle.writing.specs.Writing.{digitOf, expiryValue, amountValue, coveredOf}
-use Rattle.writing.proofs.Allowed.{Sayable}
+use Rattle.writing.proofs.Sayable.{Sayable}
 use Rattle.writing.proofs.ReadBack.{saysOf, in-turn, covered-back}
 
 -- ---- digits and bytes

@@ -8,7 +8,7 @@ use lib.ListN.{length, take, length-take}
 use Rattle.bits.specs.Choice.{firstOf}
 use Rattle.writing.specs.Writing.{Says, said, saysFaults, coveredOf, layOut}
 use Rattle.writing.specs.declared.Covered.{Covered}
-use Rattle.writing.proofs.Allowed.{Sayable, sayable, length-covered, refused-out, laid-none, laid-clear, laid-first, laid-count}
+use Rattle.writing.proofs.Sayable.{Sayable, sayable, length-covered, refused-out, laid-none, laid-clear, laid-first, laid-count}
 use Rattle.writing.proofs.ReadBack.{covered-all}
 use Rattle.slip.specs.Printed.{unwrittenSlip, writeUnder}
 use Rattle.slip.specs.declared.Written.{Written}

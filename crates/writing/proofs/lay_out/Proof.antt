@@ -11,7 +11,7 @@ use Rattle.bits.proofs.Choice.{hit, miss}
 use Rattle.bits.proofs.Lists.{drop-replicate}
 use Rattle.writing.specs.Writing.{Says, said, saysFaults, coveredOf, filledTo, layOut}
 use Rattle.writing.specs.declared.Covered.{Covered}
-use Rattle.writing.proofs.Allowed.{Sayable, sayable, length-covered}
+use Rattle.writing.proofs.Sayable.{Sayable, sayable, length-covered}
 use borrow.Author.Needs.{needs}
 use Rattle.writing.proofs.lay_out.Statement.{statement}
 use Rattle.writing.proofs.lay_out.Tie as tie
