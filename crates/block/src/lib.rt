@@ -1,6 +1,7 @@
-// Sixteen bytes by value, of which a block of n bits takes the first n. One function moves bits, `window`; joining, truncation, turns
-// and doubling are calls of it, but where whole bytes are joined, none is moved by bits. Every function answers every argument but
-// `xor_part`, `after`, `put_part` and `put`, whose bytes must be there or have room, and five that take a width n, which sixteen bytes must hold.
+// Sixteen bytes by value, of which a block of n bits takes the first n. One function moves bits, `window`; joining, truncation,
+// turns and doubling are calls of it, but where whole bytes are joined, none is moved by bits. Every function answers every
+// argument but `xor_part`, `after`, `put_part` and `put`, whose bytes must be there or have room, and five that take a width n,
+// which sixteen bytes must hold.
 ghost use mathlib.Core.Path.{_≡_};
 ghost use mathlib.Core.List.{_++_};
 ghost use Prim.Native.Nat.{_+_, _-_, _≤_, _<_};

@@ -1,6 +1,6 @@
 -- What the program that prints takes is enough: the first 33 bytes of a lot and the first 33 key bytes get the answer of the whole
--- (`enough-printed`). A longer lot is refused 22, and nothing else of it is looked at; longer keys are refused 4 at the latest, as where a
--- slip is read. So cutting a word short can neither print what would be refused nor refuse what would be printed.
+-- (`enough-printed`). A longer lot is refused 22, and nothing else of it is looked at; longer keys are refused 4 at the latest, as
+-- where a slip is read. So cutting a word short can neither print what would be refused nor refuse what would be printed.
 -- Assumes nothing.
 use mathlib.Core.Path.{_≡_, refl, sym, ap, _∙_}
 use mathlib.Core.Bool.{Bool, true, false}

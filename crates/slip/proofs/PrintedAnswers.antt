@@ -1,7 +1,8 @@
--- Document 02 §1's words about printing, said of every answer that the contract of `write` allows: the number is that of the first fault, 22,
--- 23, 1 to 6 or 10, and 0 where there is none; a refused call leaves the room as it was and reports zeros (`write-untouched`); a written
--- slip stands at the front of the room, 27 bytes and the lot's and the tag's, and the rest of the room is as it was (`write-written`).
--- And both round trips, of every answer of `write`, `read` and `lot`: `written-read`, `written-lot`, `read-written`.
+-- Document 02 §1's words about printing, said of every answer that the contract of `write` allows: the number is that of the first
+-- fault, 22, 23, 1 to 6 or 10, and 0 where there is none; a refused call leaves the room as it was and reports zeros
+-- (`write-untouched`); a written slip stands at the front of the room, 27 bytes and the lot's and the tag's, and the rest of the
+-- room is as it was (`write-written`). And both round trips, of every answer of `write`, `read` and `lot`: `written-read`,
+-- `written-lot`, `read-written`.
 -- Assumes nothing.
 use mathlib.Core.Path.{_≡_, refl, sym, ap, ap₂, _∙_, subst}
 use mathlib.Core.Bool.{Bool, true, false, _||_}

@@ -1,5 +1,6 @@
--- What `write` rests on: how long a slip is, what a room that is short or long enough gives (`put-short`, `put-fits`), and what the answer
--- of `tag::make` makes of the slip (`sealing-is`): with room for every tag, a message of 22 to 53 bytes can only be refused 1 to 6.
+-- What `write` rests on: how long a slip is, what a room that is short or long enough gives (`put-short`, `put-fits`), and what the
+-- answer of `tag::make` makes of the slip (`sealing-is`): with room for every tag, a message of 22 to 53 bytes can only be refused
+-- 1 to 6.
 -- Assumes nothing.
 use mathlib.Core.Path.{_≡_, refl, sym, ap, ap₂, _∙_}
 use mathlib.Core.Bool.{Bool, true, false}
@@ -74,10 +75,10 @@ module _ (slip : List ℕ) (calls : ℕ) (room : List ℕ) where
 
 -- what the slip's answer is for each answer of `make`, whose tag stands at the front of its room
 unfoldable pub sealing : Agreement → List ℕ → List ℕ → Outcome → List ℕ → Written × List ℕ
-sealing A front room Accepted tag = (unwrittenSlip 0, room)
+sealing A front room Accepted tag = (unwrittenSlip 10, room)
 sealing A front room (Made calls) tag = putOf (sealedBy A front (take (bytesFor (A .m)) tag)) calls room
-sealing A front room (Yes calls) tag = (unwrittenSlip 0, room)
-sealing A front room (No calls) tag = (unwrittenSlip 0, room)
+sealing A front room (Yes calls) tag = (unwrittenSlip 10, room)
+sealing A front room (No calls) tag = (unwrittenSlip 10, room)
 sealing A front room (Refused number) tag = (unwrittenSlip number, room)
 
 module _ (A : Agreement) (keys front : List ℕ) (whole : covered front ≡ front) (least : 22 ≤ length front) (most : length front ≤ 53) where

@@ -1,5 +1,5 @@
--- A lot slip written: the slip of what it is to say, an agreement and keys, and the whole answer with every byte of the lent room at
--- the end (02 §1).
+-- A lot slip written: the slip of what it is to say, an agreement and keys, and the whole answer with every byte of the lent room
+-- at the end (02 §1).
 -- Assumes nothing.
 use mathlib.Core.List.{List, [], _∷_, _++_}
 use Prim.Native.Nat.{ℕ, _+_, _/_, _%_}

@@ -203,7 +203,7 @@ fn write_under(agreed: settings::Agreement, keys: &[u8], front: &[u8], room: &mu
     match answer {
         settings::Outcome::Refused(number) => unwritten(number),
         settings::Outcome::Made(calls) => put_slip(agreed, front, tag, calls, room),
-        _ => unwritten(0),
+        _ => unwritten(10),
     }
 }
 

@@ -1,7 +1,7 @@
--- Slips through C, said of every answer that the contracts of `slipseal_write` and `slipseal_read` allow: what was written is read back
--- under the same keys (`c-written-read`), and an accepted slip written again from what was read is that slip (`c-read-written`); a refused
--- call leaves the room (`write-untouched`). `slipseal_write` keeps the contract of `slip::write` word for word, so its answers are that
--- function's.
+-- Slips through C, said of every answer that the contracts of `slipseal_write` and `slipseal_read` allow: what was written is read
+-- back under the same keys (`c-written-read`), and an accepted slip written again from what was read is that slip
+-- (`c-read-written`); a refused call leaves the room (`write-untouched`). `slipseal_write` keeps the contract of `slip::write` word
+-- for word, so its answers are that function's.
 -- Assumes nothing.
 use mathlib.Core.Path.{_≡_, refl, sym, ap, ap₂, _∙_, subst}
 use mathlib.Core.Bool.{Bool, true, false}

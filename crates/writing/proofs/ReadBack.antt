@@ -1,6 +1,6 @@
--- What was written is read back. Whatever goes on after the covered fields, reading finds each field where it was put, the seal where the
--- covered bytes end, and in each field the value that was written; where nothing refused it, the date and the amount too (`says-back`).
--- With a seal of an allowed length after them, the fields have no fault (`layout-back`).
+-- What was written is read back. Whatever goes on after the covered fields, reading finds each field where it was put, the seal
+-- where the covered bytes end, and in each field the value that was written; where nothing refused it, the date and the amount too
+-- (`says-back`). With a seal of an allowed length after them, the fields have no fault (`layout-back`).
 -- Assumes nothing.
 use mathlib.Core.Path.{_≡_, refl, sym, ap, ap₂, _∙_}
 use mathlib.Core.Bool.{Bool, true, false, _||_}

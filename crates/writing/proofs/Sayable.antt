@@ -1,5 +1,5 @@
--- What is not refused: the lot, the amount and the date are as their rules ask (`sayable`). And what `lay_out` answers: the refusal, or the
--- covered bytes first.
+-- What is not refused: the lot, the amount and the date are as their rules ask (`sayable`). And what `lay_out` answers: the
+-- refusal, or the covered bytes first.
 -- Assumes nothing.
 use mathlib.Core.Path.{_≡_, refl, sym, _∙_}
 use mathlib.Core.Bool.{Bool, true, false}

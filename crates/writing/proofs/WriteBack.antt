@@ -1,6 +1,6 @@
 -- What was read is written again: a slip without a fault in its fields is the covered fields of what it says, and its seal
--- (`written-again`). For the digits and the bytes of a number are the only ones that give it (`expiry-again`, `amount-again`), so what the
--- slip says can be written, and is written to the same bytes.
+-- (`written-again`). For the digits and the bytes of a number are the only ones that give it (`expiry-again`, `amount-again`), so
+-- what the slip says can be written, and is written to the same bytes.
 -- Assumes nothing.
 use mathlib.Core.Path.{_≡_, refl, sym, ap, ap₂, _∙_, subst}
 use mathlib.Core.List.{List, [], _∷_, _++_}

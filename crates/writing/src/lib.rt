@@ -1,5 +1,5 @@
-// The fields of a slip that its seal covers, written by the rows of the format that reading uses: what cannot be written, refusals 22 and
-// 23, and the bytes. Numbers come in as `usize`, and nothing is narrowed before it is tested.
+// The fields of a slip that its seal covers, written by the rows of the format that reading uses: what cannot be written, refusals
+// 22 and 23, and the bytes. Numbers come in as `usize`, and nothing is narrowed before it is tested.
 ghost use mathlib.Core.Path.{_≡_};
 ghost use mathlib.Core.List.{_++_};
 ghost use Prim.Native.Nat.{_+_, _≤_, _<_};

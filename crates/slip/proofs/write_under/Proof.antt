@@ -30,8 +30,8 @@ answered c =
     ap (λ (r : Outcome × List ℕ). sealing (a .agreed) (a .front .now) (a .room .now) (r .0) (r .1)) (c .make .ensures)
     ∙ sealing-is (a .agreed) (a .keys .now) (a .front .now) (s .pre .0) (s .pre .1) (s .pre .2) _ (a .room .now) refl
 
--- an answer of `make` that is neither a refusal nor a tag
-other : (A : Agreement) (front room tag : List ℕ) (x : Outcome) → OneOf (0 ∷ 2 ∷ 3 ∷ []) (tagOf the-type x) → (unwrittenSlip 0, room) ≡ sealing A front room x tag
+-- an answer of `make` that is neither a refusal nor a tag: there is none, and it would be refused
+other : (A : Agreement) (front room tag : List ℕ) (x : Outcome) → OneOf (0 ∷ 2 ∷ 3 ∷ []) (tagOf the-type x) → (unwrittenSlip 10, room) ≡ sealing A front room x tag
 unfolding sealing
 other A front room tag Accepted h = refl
 other A front room tag (Made n) h = absurd (⊎-elim (λ e. omega arith) (λ k. ⊎-elim (λ e. omega arith) (λ e. omega arith) k) h)
