@@ -21,13 +21,13 @@ use Rattle.slip.specs.Printed.{sealingFaults, writeFaults, writeOf}
 use Rattle.slip.specs.declared.Written.{Written}
 use Rattle.slip.proofs.Judged.{agreement-numbered}
 use Rattle.slip.proofs.Enough.{four-latest, not-clear}
-use Rattle.slip.proofs.PrintedAnswers.{unwrittenOf, writeFault, writable, refused-is}
+use Rattle.slip.proofs.PrintedAnswers.{unwrittenOf, writeFault, writable, unwritten-is}
 
 -- ---- two calls with one refusal
 
 same-refusal : (A : Agreement) (k l : List ℕ) (x y : Says) (room : List ℕ) → ¬ (writeFault A k x room ≡ 0) → writeFault A l y room ≡ writeFault A k x room → writeOf A l y room ≡ writeOf A k x room
 same-refusal A k l x y room some e =
-    refused-is A l y room (λ z. some (sym e ∙ z)) ∙ ap (λ (n : ℕ). unwrittenOf n room) e ∙ sym (refused-is A k x room some)
+    unwritten-is A l y room (λ z. some (sym e ∙ z)) ∙ ap (λ (n : ℕ). unwrittenOf n room) e ∙ sym (unwritten-is A k x room some)
 
 -- ---- lots of more than 32 bytes
 

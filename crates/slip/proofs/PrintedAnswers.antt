@@ -18,14 +18,16 @@ use borrow.Fn.Kinds.{Dens}
 use borrow.Author.Tests.{le-ltb, ltb-false, eqb-true, eqb-false}
 use Rattle.bits.specs.Choice.{pick, _given_, firstOf}
 use Rattle.bits.specs.Once.{Allowed}
-use Rattle.bits.proofs.Faults.{all, with, every-append, every-first, Numbered, also, none, numbered-append, clear-append, first-clear, clear-first, first-append-clear, Clear, passed, done}
+use Rattle.bits.proofs.Faults.{all, with, every-append, every-first, Numbered, also, none, numbered-append, clear-append, first-clear, clear-first, first-append, first-append-clear, Clear, passed, done}
 use Rattle.mac.specs.Tag.{bytesFor}
-use Rattle.settings.specs.Faults.{settingsFaults}
+use Rattle.keys.specs.Given.{keysOf}
+use Rattle.settings.specs.Faults.{settingsFaults, settingsRefusal}
+use Rattle.settings.proofs.Sound.{sound-size}
 use Rattle.settings.specs.declared.Agreement.{Agreement}
 use Rattle.fields.specs.Field.{lengthOf, value}
 use Rattle.fields.specs.Layout.{lotAt, lotField}
 use Rattle.writing.specs.Writing.{Says, said, saysFaults}
-use Rattle.writing.proofs.Sayable.{says-numbered}
+use Rattle.writing.proofs.Sayable.{Sayable, sayable, says-numbered}
 use Rattle.writing.proofs.ReadBack.{saysOf}
 use Rattle.slip.specs.Part.{seen, partOf, lotPart}
 use Rattle.slip.specs.Slip.{agreementNamed, sealCalls, agreementFaults, contentsOf, acceptedSlip, readOf}
@@ -92,9 +94,9 @@ module _ (A : Agreement) (keys : List ℕ) (x : Says) (room : List ℕ) where
       enough : Clear (10 given ltb (length room) (length (slipOf A keys x)) ∷ []) → length (slipOf A keys x) ≤ length room
       enough (passed h done) = ltb-false (length room) (length (slipOf A keys x)) h
 
-  pub refused-is : ¬ (writeFault ≡ 0) → writeOf A keys x room ≡ unwrittenOf writeFault room
+  pub unwritten-is : ¬ (writeFault ≡ 0) → writeOf A keys x room ≡ unwrittenOf writeFault room
   unfolding writeOf
-  refused-is some = sym (refused-by writeFault (slipOf A keys x) (slipCalls A keys x) room some)
+  unwritten-is some = sym (refused-by writeFault (slipOf A keys x) (slipCalls A keys x) room some)
 
   pub written-is : writeFault ≡ 0 → writeOf A keys x room ≡ writtenOf A keys x room
   unfolding writeOf writtenBy pick
@@ -106,7 +108,7 @@ module _ (A : Agreement) (keys : List ℕ) (x : Says) (room : List ℕ) where
     where
       go : (b : Bool) → eqb writeFault 0 ≡ b → writeOf A keys x room .0 .number ≡ writeFault
       go true h = let e = eqb-true writeFault 0 h in ap (λ (r : Written × List ℕ). r .0 .number) (written-is e) ∙ sym e
-      go false h = ap (λ (r : Written × List ℕ). r .0 .number) (refused-is (eqb-false writeFault 0 h))
+      go false h = ap (λ (r : Written × List ℕ). r .0 .number) (unwritten-is (eqb-false writeFault 0 h))
 
   -- and the other way round
   pub clear-of : Writable A keys x → length (slipOf A keys x) ≤ length room → writeFault ≡ 0
@@ -115,6 +117,39 @@ module _ (A : Agreement) (keys : List ℕ) (x : Says) (room : List ℕ) where
       first-append-clear (saysFaults x) _ (says-numbered x) (ok .says)
       ∙ first-append-clear (agreementFaults A keys) _ (agreement-numbered A keys) (ok .settings)
       ∙ clear-first (passed (le-ltb (length room) (length (slipOf A keys x)) room-there) done)
+
+  -- ---- 75 bytes of room are enough
+
+  pub slip-few : Writable A keys x → (29 ≤ length (slipOf A keys x)) × (length (slipOf A keys x) ≤ 75)
+  unfolding settingsRefusal bytesFor
+  slip-few ok =
+      let long = length-printed A keys x ok in
+      let lot = sayable x (ok .says) .lot-length in
+      let size = sound-size A (length keys) (keysOf keys) (ok .settings) in
+      (omega (arith, long, lot, size), omega (arith, long, lot, size))
+
+  -- the tests before the room's give other numbers
+  says-other : eqb (firstOf (saysFaults x)) 10 ≡ false
+  unfolding saysFaults
+  says-other = every-first {P = λ n. eqb n 10 ≡ false} refl (with refl (with refl (with refl all)))
+
+  settings-other : eqb (firstOf (agreementFaults A keys)) 10 ≡ false
+  unfolding settingsFaults
+  settings-other = every-first {P = λ n. eqb n 10 ≡ false} refl (with refl (with refl (with refl (with refl (with refl (with refl all))))))
+
+  pub room-75 : 75 ≤ length room → ¬ (writeFault ≡ 10)
+  unfolding writeFaults sealingFaults
+  room-75 enough ten = go (eqb (firstOf (saysFaults x)) 0) (eqb (firstOf (agreementFaults A keys)) 0) refl refl
+    where
+      go : (b d : Bool) → eqb (firstOf (saysFaults x)) 0 ≡ b → eqb (firstOf (agreementFaults A keys)) 0 ≡ d → ⊥
+      go false d e f = eqb-false (firstOf (saysFaults x)) 10 says-other (sym (first-append (saysFaults x) _ (eqb-false (firstOf (saysFaults x)) 0 e)) ∙ ten)
+      go true false e f =
+          eqb-false (firstOf (agreementFaults A keys)) 10 settings-other
+          (sym (first-append-clear (saysFaults x) _ (says-numbered x) (eqb-true (firstOf (saysFaults x)) 0 e) ∙ first-append (agreementFaults A keys) _ (eqb-false (firstOf (agreementFaults A keys)) 0 f)) ∙ ten)
+      go true true e f =
+          let ok : Writable A keys x = record { says = eqb-true (firstOf (saysFaults x)) 0 e; settings = eqb-true (firstOf (agreementFaults A keys)) 0 f } in
+          let none : writeFault ≡ 0 = clear-of ok (omega (arith, slip-few ok .1)) in
+          absurd (omega (arith, none, ten))
 
 -- ---- of every answer of `write`
 
@@ -149,7 +184,7 @@ module _ (κs : Lfts 3) (a : Dens κs write-k.ps) (x : Writing κs a) where
 
   -- a refused call: its number and zeros, and the room as it was
   pub write-untouched : ¬ (x .result .number ≡ 0) → (x .result, roomLeft) ≡ unwrittenOf fault (roomGiven κs a)
-  write-untouched some = x .ensures ∙ refused-is (a .0) (keysGiven κs a) (saysGiven κs a) (roomGiven κs a) (λ e. some (write-number ∙ e))
+  write-untouched some = x .ensures ∙ unwritten-is (a .0) (keysGiven κs a) (saysGiven κs a) (roomGiven κs a) (λ e. some (write-number ∙ e))
 
   module _ (good : x .result .number ≡ 0) where
     clear : fault ≡ 0

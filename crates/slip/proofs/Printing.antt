@@ -149,12 +149,12 @@ module _ (A : Agreement) (keys front : List ℕ) (whole : covered front ≡ fron
 -- ---- what is to be said comes first
 
 module _ (A : Agreement) (keys : List ℕ) (x : Says) (room : List ℕ) where
-  pub write-refused : ¬ (firstOf (saysFaults x) ≡ 0) → (unwrittenSlip (firstOf (saysFaults x)), room) ≡ writeOf A keys x room
+  pub says-refused : ¬ (firstOf (saysFaults x) ≡ 0) → (unwrittenSlip (firstOf (saysFaults x)), room) ≡ writeOf A keys x room
   unfolding writeOf writeFaults
-  write-refused some =
+  says-refused some =
       refused-by (firstOf (saysFaults x)) (slipOf A keys x) (slipCalls A keys x) room some
       ∙ ap (λ (n : ℕ). writtenBy n (slipOf A keys x) (slipCalls A keys x) room) (sym (first-append (saysFaults x) _ some))
 
-  pub write-written : firstOf (saysFaults x) ≡ 0 → writeUnder A keys (coveredOf x) room ≡ writeOf A keys x room
+  pub says-clear : firstOf (saysFaults x) ≡ 0 → writeUnder A keys (coveredOf x) room ≡ writeOf A keys x room
   unfolding writeOf writeUnder writeFaults slipOf slipCalls
-  write-written clear = ap (λ (n : ℕ). writtenBy n (slipOf A keys x) (slipCalls A keys x) room) (sym (first-append-clear (saysFaults x) _ (says-numbered x) clear))
+  says-clear clear = ap (λ (n : ℕ). writtenBy n (slipOf A keys x) (slipCalls A keys x) room) (sym (first-append-clear (saysFaults x) _ (says-numbered x) clear))

@@ -1,7 +1,8 @@
 -- Printing and reading undo each other. At the shelf: a slip that was printed is accepted under the same keys and says what it was
 -- to say (`printed-read`); a slip that was accepted, printed again from what it says and names, is that slip byte for byte
 -- (`read-printed`). So under an agreement and keys, what can be printed and the slips that are accepted and name the agreement
--- correspond one to one (`one-to-one`).
+-- correspond one to one (`one-to-one`). Names with printed speak of the definitions; those of PrintedAnswers.antt, with written, of the
+-- code's answers.
 -- Assumes nothing.
 use mathlib.Core.Path.{_≡_, refl, sym, ap, ap₂, _∙_, subst}
 use mathlib.Core.Bool.{false, not}

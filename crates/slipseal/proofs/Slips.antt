@@ -1,5 +1,5 @@
 -- Slips through C, said of every answer that the contracts of `slipseal_write` and `slipseal_read` allow: what was written is read
--- back under the same keys (`c-written-read`), and an accepted slip written again from what was read is that slip
+-- back under the same keys (`c-written-read`, `c-written-lot`), and an accepted slip written again from what was read is that slip
 -- (`c-read-written`); a refused call leaves the room (`write-untouched`). `slipseal_write` keeps the contract of `slip::write` word
 -- for word, so its answers are that function's.
 -- Assumes nothing.
@@ -8,7 +8,7 @@ use mathlib.Core.Bool.{Bool, true, false}
 use mathlib.Core.List.{List}
 use Prim.Native.Nat.{ℕ}
 use lib.Dec.{eqb}
-use lib.ListN.{take}
+use lib.ListN.{length, take, drop}
 use contract.Lifetimes.{Lfts}
 use borrow.Author.Tests.{eqb-true, eqb-false}
 use borrow.Fn.Kinds.{Dens}
@@ -20,7 +20,7 @@ use Rattle.slip.specs.declared.Slip as slip
 use Rattle.slip.proofs.Whole.{Accepted}
 use Rattle.slip.proofs.RoundTrip.{saidSlip}
 use Rattle.slip.proofs.Numbers.{refused-is}
-use Rattle.slip.proofs.PrintedAnswers.{keysGiven, saysGiven, roomGiven, roomLeft, unwrittenOf, writtenAs, write-number, reads-back, Again, writes-again}
+use Rattle.slip.proofs.PrintedAnswers.{keysGiven, saysGiven, roomGiven, roomLeft, unwrittenOf, writtenAs, write-number, reads-back, lot-back, Again, writes-again}
 use Rattle.slip.proofs.PrintedAnswers as slip-answers
 use Rattle.slipseal.specs.declared.Slip.{Slip}
 use Rattle.slipseal.specs.Border.{toldSlip}
@@ -49,6 +49,13 @@ module _ (κs : Lfts 3) (a : Dens κs write-k.ps) (x : Written κs a) where
       (lent : b .0 .now ≡ take (x .result .length) (roomLeft κs a x)) (keyed : b .1 .0 .now ≡ keysGiven κs a) where
     pub c-written-read : y .result ≡ toldSlip (saidSlip (saysGiven κs a) (x .result .calls))
     c-written-read = y .ensures ∙ ap toldSlip (ap₂ readOf lent keyed ∙ reads-back κs a x good)
+
+    -- and the lot that it names is the lot, byte for byte
+    pub c-written-lot : take (y .result .«lot_len») (drop (y .result .«lot_at») (b .0 .now)) ≡ saysGiven κs a .lot
+    unfolding toldSlip
+    c-written-lot =
+        ap (λ (r : Slip). take (r .«lot_len») (drop (r .«lot_at») (b .0 .now))) c-written-read
+        ∙ ap (λ (s : List ℕ). take (length (saysGiven κs a .lot)) (drop 14 s)) lent ∙ lot-back κs a x good
 
 -- a slip whose number is 0 is accepted
 accepted-of : (s keys : List ℕ) → readOf s keys .number ≡ 0 → Accepted s keys

@@ -6,7 +6,7 @@
 //     slipcheck vectors    the tags that the standard prints, made anew and compared
 //
 // The argument is looked at first, then the keys, then the file. Its own buffers, with those of the calls it makes on the system, would
-// stay far below 64 KiB even if they were all in use together; so would slipprint's, 12983 bytes:
+// stay far below 64 KiB even if they were all in use together (slipprint's stand in printing.rt):
 //
 //     4096   the file's name
 //     4096   its copy in os::open_read

@@ -1,8 +1,9 @@
-// A slip written into a new file. A file that is there stays as it was, and one that cannot be written whole is removed again.
+// A slip written into a new file. A file that is there stays as it was. One that cannot be written whole is removed again, and so is one
+// of which nobody could be told.
 use crate::words;
 use words::print;
 
-// Makes the file and writes the slip into it, or says why not; gives whether it is done.
+// Makes the file, writes the slip into it and says that it is printed, or says why not; gives whether it is done.
 pub(crate) fn write(name: &[u8], slip: &[u8]) -> bool {
     let file = os::create(name);
     if file < 0 {
@@ -17,6 +18,10 @@ pub(crate) fn write(name: &[u8], slip: &[u8]) -> bool {
     }
     if libc::close(file) != 0 {
         take_back(name, b"the file cannot be closed", os::errno());
+        return false;
+    }
+    if !io::write_all(libc::STDOUT_FILENO, b"printed\n") {
+        os::unlink(name);
         return false;
     }
     true

@@ -10,7 +10,7 @@ const MOST_DIGITS: usize = 64;
 const HUGE: usize = 1000000000000000000;
 
 // Whether a word is not 1 to 64 decimal digits.
-pub(crate) fn number_wrong(word: &[u8]) -> bool {
+pub(crate) fn no_number(word: &[u8]) -> bool {
     if word.len() == 0 {
         return true;
     }
@@ -49,7 +49,7 @@ fn with_digit(n: usize, digit: u8) -> usize
 }
 
 // Whether a word is not four digits, a hyphen, two digits, a hyphen and two digits.
-pub(crate) fn date_wrong(word: &[u8]) -> bool {
+pub(crate) fn no_date(word: &[u8]) -> bool {
     if word.len() != 10 {
         return true;
     }

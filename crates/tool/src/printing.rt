@@ -5,7 +5,8 @@
 //     slipprint -h                                          how it is used; also --help
 //
 // The arguments are looked at first, in their order, then the keys, then the library's answer, then the file: so a refusal leaves no
-// new file, nor does an error. The program's own buffers, with those of the calls it makes on the system:
+// new file, nor does an error, but where the system takes no removal either, and then it is said. The program's own buffers, with those
+// of the calls it makes on the system:
 //
 //     4096   the file's name
 //     4096   its copy in os::create or os::unlink
@@ -39,7 +40,7 @@ pub fn run_print() {
 
 // What the program says where its words are so many arguments from this one on, and the keys are typed into this open file.
 pub fn answer_print(typed: i32, at: usize, count: usize) {
-    // No program has so many arguments; their numbers are added to below.
+    // So that the numbers of the arguments can be added to.
     if 65536 < at {
         print_misuse();
         return;
@@ -130,7 +131,7 @@ fn answer_six(typed: i32, name: &[u8], at: usize)
     );
 }
 
-// The words as they are, each judged as far as it can be without keys.
+// The words, of which date and numbers are judged for how they are written.
 fn print_slip(
     typed: i32,
     name: &[u8],
@@ -145,7 +146,11 @@ fn print_slip(
         print(b"error: the file's name is empty\n");
         return;
     }
-    if numbers::date_wrong(date) {
+    if check::same(name, b"vectors") {
+        print(b"error: slipcheck has another use for that name: give ./vectors\n");
+        return;
+    }
+    if numbers::no_date(date) {
         print(b"error: the date is not written as 2026-11-04\n");
         return;
     }
@@ -171,7 +176,7 @@ fn print_slip(
 
 // Whether a word is no number; if so, it is said.
 fn is_no_number(what: &[u8], word: &[u8]) -> bool {
-    if numbers::number_wrong(word) {
+    if numbers::no_number(word) {
         print(b"error: ");
         print(what);
         print(b" is not written in 1 to 64 digits\n");
@@ -180,7 +185,7 @@ fn is_no_number(what: &[u8], word: &[u8]) -> bool {
     false
 }
 
-// The numbers that were asked for, under the keys that are typed.
+// What was asked for, with the keys that are typed.
 fn print_typed(
     typed: i32,
     name: &[u8],
@@ -223,7 +228,6 @@ fn print_sealed(
         return;
     }
     if new_file::write(name, first(&room, written.length)) {
-        print(b"printed\n");
         words::print_contents(year, month, day, lot, amount);
         words::print_both(b"length: ", written.length);
         words::print_both(b" bytes\ncipher calls: ", written.calls);

@@ -23,8 +23,8 @@ struct Turn {
     more: bool,
 }
 
-// Puts the typed bytes into the room, as many as fit. A room of 33 bytes is enough: keys have 16 or 32 bytes, and a reader that is
-// given 33 answers as it does for any longer keys.
+// Puts the typed bytes into the room, as many as fit. A room of 33 bytes is enough: keys have 16 or 32 bytes, and for 33 the
+// library answers as it does for any longer keys, whether a slip is read or written.
 pub(crate) fn read(file: i32, room: &mut [u8]) -> Typed {
     let mut typed = Typed::Bytes(0);
     let mut more = true;

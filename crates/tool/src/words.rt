@@ -1,5 +1,5 @@
-// What is printed: the contents of a slip, the meaning of each refusal, which is said here and nowhere else, and the system's reasons.
-// docs/ANSWERS.md has the same words for the refusals, with what to do about each.
+// What is printed: the contents of a slip, the meaning of each refusal, which is said here and nowhere else in the programs, and the
+// system's reasons. docs/ANSWERS.md has the same words for the refusals, with what to do about each.
 
 pub(crate) fn print(text: &[u8]) {
     io::write_all(libc::STDOUT_FILENO, text);

@@ -8,7 +8,8 @@ ghost use Rattle.bits.specs.Choice.{firstOf};
 ghost use Rattle.fields.specs.Field.{fieldOf};
 ghost use Rattle.writing.specs.Writing.{said, valueWrong, saysFaults, digitOf, expiryValue, amountValue, coveredOf, layOut};
 
-// The covered bytes of a slip: so many, and zeros after them. Or the refusal, and zeros.
+// The covered bytes of a slip: so many, and zeros after them; 53 at the most, of which 3 + 8 are the expiry's, 3 + 32 the lot's and 3 + 4
+// the amount's. Or the refusal, and zeros.
 pub struct Covered {
     pub refusal: usize,
     pub count: usize,

@@ -1,4 +1,4 @@
--- `write` meets its contract: the refusal of what is to be said, or what is written under the agreement (`write-refused`, `write-written`).
+-- `write` meets its contract: the refusal of what is to be said, or what is written under the agreement (`says-refused`, `says-clear`).
 -- Assumes nothing.
 use mathlib.Core.Path.{_≡_, sym, ap, _∙_}
 use mathlib.Core.List.{List}
@@ -12,7 +12,7 @@ use Rattle.writing.proofs.Sayable.{Sayable, sayable, length-covered, refused-ou
 use Rattle.writing.proofs.ReadBack.{covered-all}
 use Rattle.slip.specs.Printed.{unwrittenSlip, writeUnder}
 use Rattle.slip.specs.declared.Written.{Written}
-use Rattle.slip.proofs.Printing.{write-refused, write-written}
+use Rattle.slip.proofs.Printing.{says-refused, says-clear}
 use borrow.Author.Needs.{needs}
 use Rattle.slip.proofs.write.Statement.{statement}
 use Rattle.slip.proofs.write.Tie as tie
@@ -46,7 +46,7 @@ returns c =
     let a = at .before .before .before .before .args in
     let told : at .lay-out .result .refusal ≡ layOut (says at) .refusal = ap (λ (l : Covered). l .refusal) (at .lay-out .ensures) in
     let some : ¬ (firstOf (saysFaults (says at)) ≡ 0) = λ z. c .before .if1 .taken (told ∙ laid-none (says at) z) in
-    ap (λ (w : Written). (w, a .room .now)) (c .unwritten .ensures ∙ ap unwrittenSlip (told ∙ refused-out (says at) some)) ∙ write-refused (a .agreement) (a .keys .now) (says at) (a .room .now) some
+    ap (λ (w : Written). (w, a .room .now)) (c .unwritten .ensures ∙ ap unwrittenSlip (told ∙ refused-out (says at) some)) ∙ says-refused (a .agreement) (a .keys .now) (says at) (a .room .now) some
 
 array-share-prefix-bytes : tie.Need-array-share-prefix-bytes
 array-share-prefix-bytes c =
@@ -68,7 +68,7 @@ returns-2 c =
     let at = under .before .before .before .before .before in
     let none = under .before .before .before .before .if1 .left in
     let a = at .before .before .before .before .args in
-    under .write-under .ensures ∙ ap (λ (s : List ℕ). writeUnder (a .agreement) (a .keys .now) s (a .room .now)) (first-is at none) ∙ write-written (a .agreement) (a .keys .now) (says at) (a .room .now) (clear at none)
+    under .write-under .ensures ∙ ap (λ (s : List ℕ). writeUnder (a .agreement) (a .keys .now) s (a .room .now)) (first-is at none) ∙ says-clear (a .agreement) (a .keys .now) (says at) (a .room .now) (clear at none)
 
 pub write-spec : {M : Type 1} → statement M
 write-spec =
