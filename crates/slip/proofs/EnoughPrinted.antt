@@ -18,7 +18,6 @@ use Rattle.settings.specs.declared.Agreement.{Agreement}
 use Rattle.fields.specs.Field.{outside}
 use Rattle.writing.specs.Writing.{Says, said, valueWrong, saysFaults}
 use Rattle.slip.specs.Printed.{sealingFaults, writeFaults, writeOf}
-use Rattle.slip.specs.declared.Written.{Written}
 use Rattle.slip.proofs.Judged.{agreement-numbered}
 use Rattle.slip.proofs.Enough.{four-latest, not-clear}
 use Rattle.slip.proofs.PrintedAnswers.{unwrittenOf, writeFault, writable, unwritten-is}

@@ -26,7 +26,6 @@ use Rattle.settings.specs.Faults.{settingsRefusal}
 use Rattle.settings.specs.Answers.{numberOf, settingsOf}
 use Rattle.settings.proofs.Sound.{sound-size}
 use Rattle.settings.specs.declared.Agreement.{Agreement}
-use Rattle.settings.specs.declared.Settings.{Settings}
 use Rattle.settings.specs.declared.Outcome.{Outcome}
 use Rattle.settings.specs.declared.Outcome.the-variants.{Accepted, Made, Yes, No, Refused}
 use Rattle.message.specs.Faults.{roomShort}
