@@ -18,7 +18,8 @@ use Rattle.fields.proofs.Formed.{field-numbered}
 use Rattle.fields.proofs.Inside.{seal-there, seal-long}
 use Rattle.fields.proofs.Whole.{after-lot, after-amount}
 use Rattle.fields.proofs.Written.{written-value, written-after, written-clear}
-use Rattle.slip.specs.Slip.{slipFaults, faultsUnder}
+use Rattle.settings.specs.declared.Agreement.{Agreement}
+use Rattle.slip.specs.Slip.{slipFaults}
 
 -- the date 2024-02-29, and 2023-02-29, in eight digits
 abbrev pub leapDay : List ℕ
@@ -49,7 +50,7 @@ pub record ReadAs (s : List ℕ) (year month day : ℕ) (lot : List ℕ) (amount
 pub record AllBorders : Type 0 where
   pub P1-to-P9-and-P11 : Borders
   pub P10-real : (rest : List ℕ) → firstOf (expiryFaults (fieldOf expiryRow leapDay ++ rest)) ≡ 0
-  pub P10-unreal : (rest keys : List ℕ) → firstOf (slipFaults (fieldOf expiryRow noLeapDay ++ rest) keys) ≡ 23
+  pub P10-unreal : (A : Agreement) (keys rest : List ℕ) → firstOf (slipFaults A keys (fieldOf expiryRow noLeapDay ++ rest)) ≡ 23
   pub P12 : (seal : List ℕ) → ReadAs (coveredP12 ++ seal) 2026 11 4 (0x41 ∷ 0x37 ∷ []) 500 seal
   pub P12-covered : (seal : List ℕ) → covered (coveredP12 ++ seal) ≡ coveredP12
 
@@ -70,9 +71,9 @@ no-leap-day : (rest : List ℕ) → firstOf (expiryFaults (fieldOf expiryRow noL
 unfolding anyOutside outside yearOf monthOf dayOf twoDigits digitAt dateWrong daysIn days leap pick firstOf
 no-leap-day rest = date-first noLeapDay rest refl refl
 
-no-leap-slip : (rest keys : List ℕ) → firstOf (slipFaults (fieldOf expiryRow noLeapDay ++ rest) keys) ≡ 23
-unfolding slipFaults faultsUnder layoutFaults
-no-leap-slip rest keys =
+no-leap-slip : (A : Agreement) (keys rest : List ℕ) → firstOf (slipFaults A keys (fieldOf expiryRow noLeapDay ++ rest)) ≡ 23
+unfolding slipFaults layoutFaults
+no-leap-slip A keys rest =
     let s = fieldOf expiryRow noLeapDay ++ rest in
     let some : firstOf (expiryFaults s) ≡ 0 → ⊥ = λ z. absurd (omega (arith, no-leap-day rest)) in
     let in-layout : firstOf (layoutFaults s) ≡ 23 = first-append (expiryFaults s) _ some ∙ no-leap-day rest in

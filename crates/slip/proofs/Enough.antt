@@ -18,10 +18,10 @@ use Rattle.mac.specs.Algorithm.{algorithmAt, row, Keys}
 use Rattle.keys.specs.Given.{keysOf}
 use Rattle.keys.specs.Faults.{keyBytes, keyBytesWrong}
 use Rattle.settings.specs.Faults.{algorithmWrong, paddingWrong, sizeWrong, settingsFaults}
-use Rattle.fields.specs.Layout.{layoutFaults}
+use Rattle.fields.specs.Layout.{sealField, layoutFaults}
 use Rattle.fields.proofs.Laid.{laid-out}
 use Rattle.fields.proofs.FirstBytes.{layout-alike, longest}
-use Rattle.slip.specs.Slip.{agreementNamed, faultsUnder, slipFaults, refusedSlip, readOf}
+use Rattle.slip.specs.Slip.{agreementUnmet, slipFaults, refusedSlip, readOf}
 use Rattle.settings.specs.declared.Agreement.{Agreement}
 use Rattle.slip.proofs.Judged.{agreement-numbered, believed, layout-refused}
 use Rattle.slip.proofs.Numbers.{refused-is}
@@ -47,50 +47,48 @@ unfolding settingsFaults
 not-clear A n K h (passed e1 (passed e2 (passed e3 (passed e4 c)))) = true≢false (sym (too-long (A .algorithm) n h) ∙ e4)
 
 module _ (A : Agreement) (s : List ℕ) where
-  some-fault : (k : List ℕ) → 32 < length k → ¬ (firstOf (faultsUnder A s k) ≡ 0)
-  some-fault k h e = not-clear A (length k) (keysOf k) h (first-clear _ (agreement-numbered A k) (believed A s k e .settings))
+  some-fault : (k : List ℕ) → 32 < length k → ¬ (firstOf (slipFaults A k s) ≡ 0)
+  some-fault k h e = not-clear A (length k) (keysOf k) h (first-clear _ (agreement-numbered A k) (believed A k s e .settings))
 
-  same-fault : (k l : List ℕ) → 32 < length k → 32 < length l → firstOf (faultsUnder A s k) ≡ firstOf (faultsUnder A s l)
-  unfolding faultsUnder
-  same-fault k l hk hl = first-same (layoutFaults s) _ _ (four-latest A (length k) (keysOf k) _ hk ∙ sym (four-latest A (length l) (keysOf l) _ hl))
+  same-fault : (k l : List ℕ) → 32 < length k → 32 < length l → firstOf (slipFaults A k s) ≡ firstOf (slipFaults A l s)
+  unfolding slipFaults
+  same-fault k l hk hl =
+      first-same (layoutFaults s) _ _
+      (first-same (25 given agreementUnmet A (sealField s) ∷ []) _ _
+      (four-latest A (length k) (keysOf k) _ hk ∙ sym (four-latest A (length l) (keysOf l) _ hl)))
 
--- any two such keys get the same answer
-long-keys : (s k l : List ℕ) → 32 < length k → 32 < length l → readOf s k ≡ readOf s l
-unfolding slipFaults
-long-keys s k l hk hl =
-    refused-is s k (some-fault _ s k hk)
-    ∙ ap refusedSlip (same-fault (agreementNamed s) s k l hk hl)
-    ∙ sym (refused-is s l (some-fault _ s l hl))
+  -- any two such keys get the same answer
+  long-keys : (k l : List ℕ) → 32 < length k → 32 < length l → readOf A k s ≡ readOf A l s
+  long-keys k l hk hl = refused-is A k s (some-fault k hk) ∙ ap refusedSlip (same-fault k l hk hl) ∙ sym (refused-is A l s (some-fault l hl))
 
-pub keys-33 : (s k : List ℕ) → readOf s (take 33 k) ≡ readOf s k
-keys-33 s k = go (leb (length k) 33) refl
-  where
-    go : (b : Bool) → leb (length k) 33 ≡ b → readOf s (take 33 k) ≡ readOf s k
-    go true e = ap (readOf s) (take-all 33 k (leb-true (length k) 33 e))
-    go false e =
-        let long = leb-false (length k) 33 e in
-        long-keys s (take 33 k) k (omega (arith, length-take 33 k)) (omega arith)
+  pub keys-33 : (k : List ℕ) → readOf A (take 33 k) s ≡ readOf A k s
+  keys-33 k = go (leb (length k) 33) refl
+    where
+      go : (b : Bool) → leb (length k) 33 ≡ b → readOf A (take 33 k) s ≡ readOf A k s
+      go true e = ap (λ (l : List ℕ). readOf A l s) (take-all 33 k (leb-true (length k) 33 e))
+      go false e =
+          let long = leb-false (length k) 33 e in
+          long-keys (take 33 k) k (omega (arith, length-take 33 k)) (omega arith)
 
 -- ---- slips of more than 75 bytes
 
--- two that agree in their first 76 bytes get the same answer
-long-slips : (s t k : List ℕ) → 75 < length s → 75 < length t → take 76 s ≡ take 76 t → readOf s k ≡ readOf t k
-unfolding readOf
-long-slips s t k hs ht e =
-    let n = firstOf (layoutFaults s) in
-    let some : n ≡ 0 → ⊥ = λ z. absurd (omega (arith, longest s (laid-out s z))) in
-    sym (layout-refused (agreementNamed s) s k n refl some)
-    ∙ layout-refused (agreementNamed t) t k n (layout-alike s t (record { left = hs; right = ht; same = e })) some
+module _ (A : Agreement) (k : List ℕ) where
+  -- two that agree in their first 76 bytes get the same answer
+  long-slips : (s t : List ℕ) → 75 < length s → 75 < length t → take 76 s ≡ take 76 t → readOf A k s ≡ readOf A k t
+  long-slips s t hs ht e =
+      let n = firstOf (layoutFaults s) in
+      let some : n ≡ 0 → ⊥ = λ z. absurd (omega (arith, longest s (laid-out s z))) in
+      sym (layout-refused A k s n refl some) ∙ layout-refused A k t n (layout-alike s t (record { left = hs; right = ht; same = e })) some
 
-pub first-76 : (s k : List ℕ) → readOf (take 76 s) k ≡ readOf s k
-first-76 s k = go (leb (length s) 76) refl
-  where
-    go : (b : Bool) → leb (length s) 76 ≡ b → readOf (take 76 s) k ≡ readOf s k
-    go true e = ap (λ (l : List ℕ). readOf l k) (take-all 76 s (leb-true (length s) 76 e))
-    go false e =
-        let long = leb-false (length s) 76 e in
-        long-slips (take 76 s) s k (omega (arith, length-take 76 s)) (omega arith) (take-take 76 76 s (omega arith))
+  pub first-76 : (s : List ℕ) → readOf A k (take 76 s) ≡ readOf A k s
+  first-76 s = go (leb (length s) 76) refl
+    where
+      go : (b : Bool) → leb (length s) 76 ≡ b → readOf A k (take 76 s) ≡ readOf A k s
+      go true e = ap (readOf A k) (take-all 76 s (leb-true (length s) 76 e))
+      go false e =
+          let long = leb-false (length s) 76 e in
+          long-slips (take 76 s) s (omega (arith, length-take 76 s)) (omega arith) (take-take 76 76 s (omega arith))
 
 -- both at once: what the program does
-pub enough : (s k : List ℕ) → readOf (take 76 s) (take 33 k) ≡ readOf s k
-enough s k = first-76 s (take 33 k) ∙ keys-33 s k
+pub enough : (A : Agreement) (k s : List ℕ) → readOf A (take 33 k) (take 76 s) ≡ readOf A k s
+enough A k s = first-76 A (take 33 k) s ∙ keys-33 A s k

@@ -1,6 +1,6 @@
--- What `read_under` rests on. Where the fields are clear, the covered part has 22 to 53 bytes, so that of the refusals 7 to 10 of a
--- check only 10 can come; a check's answer is then turned into the slip's answer (`judged`). And the lot that is read lies inside the
--- slip (`lot-there`).
+-- What `read` and `read_under` rest on. The fields are refused first (`layout-refused`), then an agreement that is not met
+-- (`unmet-refused`). After that the covered part has 22 to 53 bytes, so that of the refusals 7 to 10 of a check only 10 can come, and
+-- the check's answer is turned into the slip's (`judged`). And the lot that is read lies inside the slip (`lot-there`).
 -- Assumes nothing.
 use mathlib.Core.Path.{_≡_, refl, sym, ap, _∙_}
 use mathlib.Core.Bool.{Bool, true, false, not}
@@ -38,7 +38,7 @@ use Rattle.fields.proofs.Formed.{end-whole}
 use Rattle.fields.proofs.Inside.{seal-there}
 use Rattle.fields.proofs.Laid.{LaidOut, laid-out, layout-numbered, covered-least, covered-most}
 use Rattle.slip.specs.Part.{lotPart, lotPartIn}
-use Rattle.slip.specs.Slip.{agreementNamed, tagNamed, sealDefined, sealCalls, sealWrong, agreementFaults, faultsUnder, contentsOf, acceptedSlip, refusedSlip, readUnder, readOf}
+use Rattle.slip.specs.Slip.{agreementUnmet, tagNamed, sealDefined, sealCalls, sealWrong, agreementFaults, slipFaults, contentsOf, acceptedSlip, refusedSlip, readOf}
 use Rattle.settings.specs.declared.Agreement.{Agreement}
 use Rattle.slip.specs.declared.Slip.{Slip}
 
@@ -78,6 +78,16 @@ module _ (S : Settings) (n : ℕ) (least : 17 ≤ n) (most : n ≤ 1048576) wher
 
 pub agreement-numbered : (A : Agreement) (keys : List ℕ) → Numbered (agreementFaults A keys)
 agreement-numbered A keys = settings-alone A (length keys) (keysOf keys)
+
+-- the faults that come after the fields and what the seal names
+abbrev pub sealFaultsUnder : Agreement → List ℕ → List ℕ → List Fault
+sealFaultsUnder A keys s = agreementFaults A keys ++ (10 given tagLengthWrong (A .m) (length (tagNamed s)) ∷ 30 given sealWrong A s keys ∷ [])
+
+pub met-first : (A : Agreement) (keys s : List ℕ) → firstOf (layoutFaults s) ≡ 0 → agreementUnmet A (sealField s) ≡ false → firstOf (slipFaults A keys s) ≡ firstOf (sealFaultsUnder A keys s)
+unfolding slipFaults
+met-first A keys s clear met =
+    first-append-clear (layoutFaults s) _ (layout-numbered s) clear
+    ∙ first-append-clear (25 given agreementUnmet A (sealField s) ∷ []) _ (also {k = 25} (omega arith) none) (clear-first (passed met done))
 
 -- the bits that the seal covers
 abbrev coveredBits : List ℕ → ℕ
@@ -122,13 +132,11 @@ module _ (s : List ℕ) (ok : LaidOut s) where
         first-same (agreementFaults A keys) _ _
         (only-ten (settingsOf A) (length (covered s)) (omega (arith, covered-least s ok)) (omega (arith, covered-most s ok)) (tagLengthWrong (A .m) (length (tagNamed s))))
 
-    -- after the fields: the tests of the check, then 30
-    in-order : faultsUnder A s keys ≡ layoutFaults s ++ (sealTests ++ (30 given sealWrong A s keys ∷ []))
-    unfolding faultsUnder
-    in-order = ap (λ (fs : List Fault). layoutFaults s ++ fs) (sym (append-assoc (agreementFaults A keys) (10 given tagLengthWrong (A .m) (length (tagNamed s)) ∷ []) (30 given sealWrong A s keys ∷ [])))
-
-    slip-first : (clear : firstOf (layoutFaults s) ≡ 0) → firstOf (faultsUnder A s keys) ≡ firstOf (sealTests ++ (30 given sealWrong A s keys ∷ []))
-    slip-first clear = ap firstOf in-order ∙ first-append-clear (layoutFaults s) _ (layout-numbered s) clear
+    -- after the fields and what the seal names: the tests of the check, then 30
+    slip-first : firstOf (layoutFaults s) ≡ 0 → agreementUnmet A (sealField s) ≡ false → firstOf (slipFaults A keys s) ≡ firstOf (sealTests ++ (30 given sealWrong A s keys ∷ []))
+    slip-first clear met =
+        met-first A keys s clear met
+        ∙ ap firstOf (sym (append-assoc (agreementFaults A keys) (10 given tagLengthWrong (A .m) (length (tagNamed s)) ∷ []) (30 given sealWrong A s keys ∷ [])))
 
 -- what the slip's answer is for each answer of the check
 unfoldable pub verdict : List ℕ → Outcome → Slip
@@ -138,30 +146,30 @@ verdict s (Yes calls) = acceptedSlip s calls
 verdict s (No calls) = refusedSlip 30
 verdict s (Refused number) = refusedSlip number
 
-module _ (s : List ℕ) (clear : firstOf (layoutFaults s) ≡ 0) (A : Agreement) (keys : List ℕ) where
+module _ (s : List ℕ) (clear : firstOf (layoutFaults s) ≡ 0) (A : Agreement) (keys : List ℕ) (met : agreementUnmet A (sealField s) ≡ false) where
   ok : LaidOut s
   ok = laid-out s clear
 
-  no-first : firstOf (faultsUnder A s keys) ≡ firstOf (sealTests s ok A keys ++ (30 given sealWrong A s keys ∷ []))
-  no-first = slip-first s ok A keys clear
+  no-first : firstOf (slipFaults A keys s) ≡ firstOf (sealTests s ok A keys ++ (30 given sealWrong A s keys ∷ []))
+  no-first = slip-first s ok A keys clear met
 
   -- the check refused: the slip is refused with the same number
-  check-refused : (n : ℕ) → n ≡ firstOf (sealTests s ok A keys) → (n ≡ 0 → ⊥) → refusedSlip n ≡ readUnder A s keys
-  unfolding readUnder pick
+  check-refused : (n : ℕ) → n ≡ firstOf (sealTests s ok A keys) → (n ≡ 0 → ⊥) → refusedSlip n ≡ readOf A keys s
+  unfolding readOf pick
   check-refused n e some =
-      let whole : firstOf (faultsUnder A s keys) ≡ n = no-first ∙ first-append (sealTests s ok A keys) _ (λ z. some (e ∙ z)) ∙ sym e in
+      let whole : firstOf (slipFaults A keys s) ≡ n = no-first ∙ first-append (sealTests s ok A keys) _ (λ z. some (e ∙ z)) ∙ sym e in
       rw (whole, ne-eqb n 0 some) refl
 
   -- the check was made: 30 where the seal is wrong, else the slip is accepted
   check-made : (same : Bool) → firstOf (sealTests s ok A keys) ≡ 0 → sealWrong A s keys ≡ not same
-      → pick same (acceptedSlip s (sealCalls A s keys)) (refusedSlip 30) ≡ readUnder A s keys
-  unfolding readUnder pick firstOf
+      → pick same (acceptedSlip s (sealCalls A s keys)) (refusedSlip 30) ≡ readOf A keys s
+  unfolding readOf pick firstOf
   check-made same e w =
-      let whole : firstOf (faultsUnder A s keys) ≡ pick (not same) 30 0 = no-first ∙ first-append-clear (sealTests s ok A keys) _ (tests-numbered s ok A keys) e ∙ ap (λ (b : Bool). pick b 30 0) w in
+      let whole : firstOf (slipFaults A keys s) ≡ pick (not same) 30 0 = no-first ∙ first-append-clear (sealTests s ok A keys) _ (tests-numbered s ok A keys) e ∙ ap (λ (b : Bool). pick b 30 0) w in
       go same whole
     where
-      go : (same : Bool) → firstOf (faultsUnder A s keys) ≡ pick (not same) 30 0
-          → pick same (acceptedSlip s (sealCalls A s keys)) (refusedSlip 30) ≡ pick (eqb (firstOf (faultsUnder A s keys)) 0) (acceptedSlip s (sealCalls A s keys)) (refusedSlip (firstOf (faultsUnder A s keys)))
+      go : (same : Bool) → firstOf (slipFaults A keys s) ≡ pick (not same) 30 0
+          → pick same (acceptedSlip s (sealCalls A s keys)) (refusedSlip 30) ≡ pick (eqb (firstOf (slipFaults A keys s)) 0) (acceptedSlip s (sealCalls A s keys)) (refusedSlip (firstOf (slipFaults A keys s)))
       go true e = rw e refl
       go false e = rw e refl
 
@@ -169,7 +177,7 @@ module _ (s : List ℕ) (clear : firstOf (layoutFaults s) ≡ 0) (A : Agreement)
   same = sameBytes (tagNamed s) (sealDefined A s keys)
 
   by-fault : (n : ℕ) → firstOf (oneCallFaults A keys (length (covered s)) (coveredBits s) (tagLengthWrong (A .m) (length (tagNamed s)))) ≡ n
-      → verdict s (pick (eqb n 0) (pick same (Yes (sealCalls A s keys)) (No (sealCalls A s keys))) (Refused n)) ≡ readUnder A s keys
+      → verdict s (pick (eqb n 0) (pick same (Yes (sealCalls A s keys)) (No (sealCalls A s keys))) (Refused n)) ≡ readOf A keys s
   unfolding pick verdict sealWrong
   by-fault zero e = yes-or-no same (sealCalls A s keys) ∙ check-made same (sym (check-first s ok A keys) ∙ e) refl
     where
@@ -178,39 +186,54 @@ module _ (s : List ℕ) (clear : firstOf (layoutFaults s) ≡ 0) (A : Agreement)
       yes-or-no false n = refl
   by-fault (suc n) e = rw (ne-eqb (suc n) 0 (λ z. absurd (omega arith))) (check-refused (suc n) (sym e ∙ check-first s ok A keys) (λ z. absurd (omega arith)))
 
-  pub judged : verdict s (checkOf A keys (covered s) (coveredBits s) (tagNamed s)) ≡ readUnder A s keys
+  pub judged : verdict s (checkOf A keys (covered s) (coveredBits s) (tagNamed s)) ≡ readOf A keys s
   unfolding checkOf checkedBy sealDefined sealCalls
   judged = by-fault _ refl
 
--- the fields were refused: so is the slip
-pub layout-refused : (A : Agreement) (s keys : List ℕ) (n : ℕ) → n ≡ firstOf (layoutFaults s) → (n ≡ 0 → ⊥) → refusedSlip n ≡ readUnder A s keys
-unfolding readUnder faultsUnder pick
-layout-refused A s keys n e some =
-    let whole : firstOf (faultsUnder A s keys) ≡ n = first-append (layoutFaults s) _ (λ z. some (e ∙ z)) ∙ sym e in
-    rw (whole, ne-eqb n 0 some) refl
+-- ---- a slip that is refused before its seal is checked
+
+module _ (A : Agreement) (keys s : List ℕ) where
+  refused-by : (n : ℕ) → firstOf (slipFaults A keys s) ≡ n → (n ≡ 0 → ⊥) → refusedSlip n ≡ readOf A keys s
+  unfolding readOf pick
+  refused-by n e some = rw (e, ne-eqb n 0 some) refl
+
+  -- the fields were refused: so is the slip
+  pub layout-refused : (n : ℕ) → n ≡ firstOf (layoutFaults s) → (n ≡ 0 → ⊥) → refusedSlip n ≡ readOf A keys s
+  unfolding slipFaults
+  layout-refused n e some = refused-by n (first-append (layoutFaults s) _ (λ z. some (e ∙ z)) ∙ sym e) some
+
+  -- they were not, and the seal names something else than agreed
+  pub unmet-first : firstOf (layoutFaults s) ≡ 0 → agreementUnmet A (sealField s) ≡ true → firstOf (slipFaults A keys s) ≡ 25
+  unfolding slipFaults firstOf pick
+  unmet-first clear unmet = first-append-clear (layoutFaults s) _ (layout-numbered s) clear ∙ rw unmet refl
+
+  pub unmet-refused : firstOf (layoutFaults s) ≡ 0 → agreementUnmet A (sealField s) ≡ true → refusedSlip 25 ≡ readOf A keys s
+  unmet-refused clear unmet = refused-by 25 (unmet-first clear unmet) (λ z. absurd (omega arith))
 
 -- ---- a slip that is not refused
 
-pub record Believed (A : Agreement) (s keys : List ℕ) : Type 0 where
+pub record Believed (A : Agreement) (keys s : List ℕ) : Type 0 where
   pub fields : LaidOut s
+  pub names : agreementUnmet A (sealField s) ≡ false
   pub settings : firstOf (agreementFaults A keys) ≡ 0
   pub tag-length : tagLengthWrong (A .m) (length (tagNamed s)) ≡ false
   pub seal : sealWrong A s keys ≡ false
 
-slip-numbered : (A : Agreement) (s keys : List ℕ) → Numbered (faultsUnder A s keys)
-unfolding faultsUnder
-slip-numbered A s keys = numbered-append (layout-numbered s) (numbered-append (agreement-numbered A keys) (also {k = 10} (omega arith) (also {k = 30} (omega arith) none)))
+slip-numbered : (A : Agreement) (keys s : List ℕ) → Numbered (slipFaults A keys s)
+unfolding slipFaults
+slip-numbered A keys s = numbered-append (layout-numbered s) (also {k = 25} (omega arith) (numbered-append (agreement-numbered A keys) (also {k = 10} (omega arith) (also {k = 30} (omega arith) none))))
 
-pub believed : (A : Agreement) (s keys : List ℕ) → firstOf (faultsUnder A s keys) ≡ 0 → Believed A s keys
-unfolding faultsUnder
-believed A s keys e =
-    let all = first-clear (faultsUnder A s keys) (slip-numbered A s keys) e in
-    let in-fields = clear-append (layoutFaults s) _ all in
-    let in-settings = clear-append (agreementFaults A keys) _ (in-fields .1) in
-    last (laid-out s (clear-first (in-fields .0))) (clear-first (in-settings .0)) (in-settings .1)
+pub believed : (A : Agreement) (keys s : List ℕ) → firstOf (slipFaults A keys s) ≡ 0 → Believed A keys s
+unfolding slipFaults
+believed A keys s e =
+    let all = clear-append (layoutFaults s) _ (first-clear (slipFaults A keys s) (slip-numbered A keys s) e) in
+    after-fields (laid-out s (clear-first (all .0))) (all .1)
   where
-    last : LaidOut s → firstOf (agreementFaults A keys) ≡ 0 → Clear (10 given tagLengthWrong (A .m) (length (tagNamed s)) ∷ 30 given sealWrong A s keys ∷ []) → Believed A s keys
-    last ok sound (passed e (passed f done)) = record { fields = ok; settings = sound; tag-length = e; seal = f }
+    last : LaidOut s → agreementUnmet A (sealField s) ≡ false → firstOf (agreementFaults A keys) ≡ 0 → Clear (10 given tagLengthWrong (A .m) (length (tagNamed s)) ∷ 30 given sealWrong A s keys ∷ []) → Believed A keys s
+    last ok met sound (passed e (passed f done)) = record { fields = ok; names = met; settings = sound; tag-length = e; seal = f }
+
+    after-fields : LaidOut s → Clear (25 given agreementUnmet A (sealField s) ∷ sealFaultsUnder A keys s) → Believed A keys s
+    after-fields ok (passed met rest) = let both = clear-append (agreementFaults A keys) _ rest in last ok met (clear-first (both .0)) (both .1)
 
 -- ---- where the lot lies
 
@@ -218,16 +241,16 @@ lot-in : (s : List ℕ) → LaidOut s → lotAt s + 3 + lengthOf (lotField s) �
 unfolding lotField
 lot-in s ok = omega (arith, length-drop (lotAt s) s, ok .lot .whole)
 
-lot-fits : (A : Agreement) (s keys : List ℕ) (calls n : ℕ) → firstOf (faultsUnder A s keys) ≡ n
+lot-fits : (A : Agreement) (keys s : List ℕ) (calls n : ℕ) → firstOf (slipFaults A keys s) ≡ n
     → pick (eqb n 0) (acceptedSlip s calls) (refusedSlip n) .contents .«lot_at» + pick (eqb n 0) (acceptedSlip s calls) (refusedSlip n) .contents .«lot_len» ≤ length s
 unfolding pick acceptedSlip contentsOf refusedSlip
-lot-fits A s keys calls zero e = lot-in s (believed A s keys e .fields)
-lot-fits A s keys calls (suc n) e = rw (ne-eqb (suc n) 0 (λ z. absurd (omega arith))) (omega arith)
+lot-fits A keys s calls zero e = lot-in s (believed A keys s e .fields)
+lot-fits A keys s calls (suc n) e = rw (ne-eqb (suc n) 0 (λ z. absurd (omega arith))) (omega arith)
 
-lot-inside : (s keys : List ℕ) → readOf s keys .contents .«lot_at» + readOf s keys .contents .«lot_len» ≤ length s
-unfolding readOf readUnder
-lot-inside s keys = lot-fits (agreementNamed s) s keys _ _ refl
+lot-inside : (A : Agreement) (keys s : List ℕ) → readOf A keys s .contents .«lot_at» + readOf A keys s .contents .«lot_len» ≤ length s
+unfolding readOf
+lot-inside A keys s = lot-fits A keys s _ _ refl
 
-pub lot-there : (s : RefT (List ℕ)) (keys : List ℕ) → lotPart s (readOf (now s) keys .contents) ≡ lotPartIn s (readOf (now s) keys .contents)
+pub lot-there : (A : Agreement) (keys : List ℕ) (s : RefT (List ℕ)) → lotPart s (readOf A keys (now s) .contents) ≡ lotPartIn s (readOf A keys (now s) .contents)
 unfolding lotPartIn
-lot-there s keys = hit _ _ _ _ (le-leb _ _ (lot-inside (now s) keys)) refl
+lot-there A keys s = hit _ _ _ _ (le-leb _ _ (lot-inside A keys (now s))) refl

@@ -1,6 +1,7 @@
 pub mod Judged
 pub mod Whole
 pub mod Numbers
+pub mod Agreed
 pub mod OneCheck
 pub mod Enough
 pub mod Borders

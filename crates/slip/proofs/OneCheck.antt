@@ -7,6 +7,7 @@ use Prim.Native.Nat.{ℕ}
 use denote.Ref.{RefT, now}
 use contract.Lifetimes.{Lfts}
 use Rattle.bits.specs.Once.{Allowed}
+use Rattle.settings.specs.declared.Agreement.{Agreement}
 use Rattle.slip.specs.Part.{seen, lotPartIn}
 use Rattle.slip.specs.declared.Slip.{Slip}
 use Rattle.slip.proofs.Judged.{lot-there}
@@ -17,10 +18,10 @@ use Rattle.slip.proofs.lot_in.Reads as lot-in
 use Rattle.slip.proofs.lot.Kinds as lot-k
 use Rattle.slip.proofs.lot.Reads as lot
 
-pub one-check : (κs : Lfts 2) (νs : Lfts 1) (s keys : RefT (List ℕ))
-    (x : Allowed read-k.ps read-k.r read.Learnt κs (s, (keys, tt)))
+pub one-check : (κs λs : Lfts 2) (νs : Lfts 1) (A : Agreement) (keys s : RefT (List ℕ))
+    (x : Allowed read-k.ps read-k.r read.Learnt κs (A, (keys, (s, tt))))
     (y : Allowed lot-in-k.ps lot-in-k.r lot-in.Learnt νs (s, (x .result .contents, tt)))
-    (z : Allowed lot-k.ps lot-k.r lot.Learnt κs (s, (keys, tt)))
+    (z : Allowed lot-k.ps lot-k.r lot.Learnt λs (A, (keys, (s, tt))))
     → seen (y .result) ≡ seen (z .result)
-one-check κs νs s keys x y z =
-    y .ensures ∙ ap (λ (r : Slip). lotPartIn s (r .contents)) (x .ensures) ∙ sym (lot-there s (now keys)) ∙ sym (z .ensures)
+one-check κs λs νs A keys s x y z =
+    y .ensures ∙ ap (λ (r : Slip). lotPartIn s (r .contents)) (x .ensures) ∙ sym (lot-there A (now keys) s) ∙ sym (z .ensures)

@@ -5,7 +5,7 @@
 -- `written-lot`, `read-written`.
 -- Assumes nothing.
 use mathlib.Core.Path.{_≡_, refl, sym, ap, ap₂, _∙_, subst}
-use mathlib.Core.Bool.{Bool, true, false, _||_}
+use mathlib.Core.Bool.{Bool, true, false, _||_, true≢false}
 use mathlib.Core.List.{List, [], _∷_, _++_}
 use Prim.Native.Nat.{ℕ, _+_, _≤_}
 use native.Mathlib.Omega.{arith}
@@ -30,14 +30,14 @@ use Rattle.writing.specs.Writing.{Says, said, saysFaults}
 use Rattle.writing.proofs.Sayable.{Sayable, sayable, says-numbered}
 use Rattle.writing.proofs.ReadBack.{saysOf}
 use Rattle.slip.specs.Part.{seen, partOf, lotPart}
-use Rattle.slip.specs.Slip.{agreementNamed, sealCalls, agreementFaults, contentsOf, acceptedSlip, readOf}
+use Rattle.slip.specs.Slip.{sealCalls, agreementFaults, contentsOf, acceptedSlip, readOf}
 use Rattle.slip.specs.Printed.{slipOf, slipCalls, sealingFaults, writeFaults, writtenSlip, unwrittenSlip, writtenBy, writeOf}
 use Rattle.slip.specs.declared.Contents.{Contents}
 use Rattle.slip.specs.declared.Slip.{Slip}
 use Rattle.slip.specs.declared.Written.{Written}
 use Rattle.slip.proofs.Judged.{agreement-numbered}
 use Rattle.slip.proofs.Whole.{Accepted}
-use Rattle.slip.proofs.Numbers.{accepted-is, read-number}
+use Rattle.slip.proofs.Numbers.{accepted-is, Reading, keysRead, slipRead, read-accepted}
 use Rattle.slip.proofs.Printing.{refused-by}
 use Rattle.slip.proofs.RoundTrip.{Writable, saidSlip, length-printed, printed-read, lot-printed, writable-again, read-printed, calls-again}
 use Rattle.slip.proofs.read.Kinds as read-k
@@ -182,6 +182,11 @@ module _ (κs : Lfts 3) (a : Dens κs write-k.ps) (x : Writing κs a) where
   pub write-number : x .result .number ≡ fault
   write-number = ap (λ (r : Written × List ℕ). r .0 .number) (x .ensures) ∙ number-is (a .0) (keysGiven κs a) (saysGiven κs a) (roomGiven κs a)
 
+  -- what is printed is sealed under the agreement, so the agreement is never unmet (02 §2)
+  pub write-never-25 : ¬ (x .result .number ≡ 25)
+  unfolding writeNumber
+  write-never-25 e = true≢false (sym (write-numbers (a .0) (keysGiven κs a) (saysGiven κs a) (roomGiven κs a)) ∙ ap writeNumber (sym write-number ∙ e))
+
   -- a refused call: its number and zeros, and the room as it was
   pub write-untouched : ¬ (x .result .number ≡ 0) → (x .result, roomLeft) ≡ unwrittenOf fault (roomGiven κs a)
   write-untouched some = x .ensures ∙ unwritten-is (a .0) (keysGiven κs a) (saysGiven κs a) (roomGiven κs a) (λ e. some (write-number ∙ e))
@@ -214,36 +219,41 @@ module _ (κs : Lfts 3) (a : Dens κs write-k.ps) (x : Writing κs a) where
         ap₂ (λ (n : ℕ) (r : List ℕ). take n r) length-is (ap (λ (r : Written × List ℕ). r .1) write-written)
         ∙ take-at (slipGiven κs a) (drop (length (slipGiven κs a)) (roomGiven κs a)) (length (slipGiven κs a)) refl
 
-    -- ---- the first round trip: what was written, read under the same keys
+    -- ---- the first round trip: what was written, read under the same agreement and keys
 
     -- it is accepted, and gives date, amount, calls and the lot's place back
-    pub reads-back : readOf (take (x .result .length) roomLeft) (keysGiven κs a) ≡ saidSlip (saysGiven κs a) (x .result .calls)
+    pub reads-back : readOf (a .0) (keysGiven κs a) (take (x .result .length) roomLeft) ≡ saidSlip (saysGiven κs a) (x .result .calls)
     reads-back =
-        ap (λ (s : List ℕ). readOf s (keysGiven κs a)) slip-first
+        ap (readOf (a .0) (keysGiven κs a)) slip-first
         ∙ printed-read (a .0) (keysGiven κs a) (saysGiven κs a) ok ∙ ap (saidSlip (saysGiven κs a)) (sym write-calls)
 
     -- the lot's bytes are there
     pub lot-back : take (length (saysGiven κs a .lot)) (drop 14 (take (x .result .length) roomLeft)) ≡ saysGiven κs a .lot
     lot-back = ap (λ (s : List ℕ). take (length (saysGiven κs a .lot)) (drop 14 s)) slip-first ∙ lot-printed (a .0) (keysGiven κs a) (saysGiven κs a) ok
 
-    module _ (λs : Lfts 2) (b : Dens λs read-k.ps) (y : Allowed read-k.ps read-k.r read.Learnt λs b)
-        (lent : b .0 .now ≡ take (x .result .length) roomLeft) (keyed : b .1 .0 .now ≡ keysGiven κs a) where
+    -- whatever was lent as the agreement, the keys and the slip
+    pub reads-lent : (A : Agreement) (keys s : List ℕ) → A ≡ a .0 → keys ≡ keysGiven κs a → s ≡ take (x .result .length) roomLeft → readOf A keys s ≡ saidSlip (saysGiven κs a) (x .result .calls)
+    reads-lent A keys s agreed keyed lent = (λ i. readOf (agreed i) (keyed i) (lent i)) ∙ reads-back
+
+    module _ (λs : Lfts 2) (b : Dens λs read-k.ps) (y : Reading λs b)
+        (agreed : b .0 ≡ a .0) (keyed : keysRead λs b ≡ keysGiven κs a) (lent : slipRead λs b ≡ take (x .result .length) roomLeft) where
       pub written-read : y .result ≡ saidSlip (saysGiven κs a) (x .result .calls)
-      written-read = y .ensures ∙ ap₂ readOf lent keyed ∙ reads-back
+      written-read = y .ensures ∙ reads-lent (b .0) (keysRead λs b) (slipRead λs b) agreed keyed lent
 
     module _ (λs : Lfts 2) (b : Dens λs lot-k.ps) (z : Allowed lot-k.ps lot-k.r lot.Learnt λs b)
-        (lent : b .0 .now ≡ take (x .result .length) roomLeft) (keyed : b .1 .0 .now ≡ keysGiven κs a) where
+        (agreed : b .0 ≡ a .0) (keyed : b .1 .0 .now ≡ keysGiven κs a) (lent : b .1 .1 .0 .now ≡ take (x .result .length) roomLeft) where
       -- the lot comes back as that very part of the slip: its bytes, from byte 14 on
-      pub written-lot : (ptr (z .result) ≡ (ptr (b .0) .0, 14 + ptr (b .0) .1)) × (now (z .result) ≡ saysGiven κs a .lot)
+      pub written-lot : (ptr (z .result) ≡ (ptr (b .1 .1 .0) .0, 14 + ptr (b .1 .1 .0) .1)) × (now (z .result) ≡ saysGiven κs a .lot)
       written-lot =
-          let e : seen (z .result) ≡ partOf (b .0) 14 (length (saysGiven κs a .lot)) = z .ensures ∙ ap (λ (r : Slip). lotPart (b .0) (r .contents)) (ap₂ readOf lent keyed ∙ reads-back) in
+          let slip = b .1 .1 .0 in
+          let e : seen (z .result) ≡ partOf slip 14 (length (saysGiven κs a .lot)) = z .ensures ∙ ap (λ (r : Slip). lotPart slip (r .contents)) (reads-lent (b .0) (b .1 .0 .now) (slip .now) agreed keyed lent) in
           (ap (λ (r : (ℕ × ℕ) × List ℕ). r .0) e, ap (λ (r : (ℕ × ℕ) × List ℕ). r .1) e ∙ ap (λ (s : List ℕ). take (length (saysGiven κs a .lot)) (drop 14 s)) lent ∙ lot-back)
 
 -- ---- the second round trip: a slip that was accepted, written again
 
--- a call of `write` from the settings that a slip names, under the keys, from the contents that were read, with room for the slip
-pub record Again (s keys : List ℕ) (c : Contents) (κs : Lfts 3) (a : Dens κs write-k.ps) : Type 0 where
-  pub agreed : a .0 ≡ agreementNamed s
+-- a call of `write` under the agreement and the keys, from the contents that were read, with room for the slip
+pub record Again (A : Agreement) (keys s : List ℕ) (c : Contents) (κs : Lfts 3) (a : Dens κs write-k.ps) : Type 0 where
+  pub agreed : a .0 ≡ A
   pub keyed : keysGiven κs a ≡ keys
   pub year : a .1 .1 .0 ≡ c .year
   pub month : a .1 .1 .1 .0 ≡ c .month
@@ -252,16 +262,16 @@ pub record Again (s keys : List ℕ) (c : Contents) (κs : Lfts 3) (a : Dens κs
   pub amount : a .1 .1 .1 .1 .1 .1 .0 ≡ c .amount
   pub room : length s ≤ length (roomGiven κs a)
 
-module _ (s keys : List ℕ) (yes : Accepted s keys) (κs : Lfts 3) (a : Dens κs write-k.ps) (x : Writing κs a) (again : Again s keys (readOf s keys .contents) κs a) where
-  contents-are : readOf s keys .contents ≡ contentsOf s
+module _ (A : Agreement) (keys s : List ℕ) (yes : Accepted A keys s) (κs : Lfts 3) (a : Dens κs write-k.ps) (x : Writing κs a) (again : Again A keys s (readOf A keys s .contents) κs a) where
+  contents-are : readOf A keys s .contents ≡ contentsOf s
   unfolding acceptedSlip
-  contents-are = ap (λ (r : Slip). r .contents) (accepted-is s keys yes)
+  contents-are = ap (λ (r : Slip). r .contents) (accepted-is A keys s yes)
 
-  calls-are : readOf s keys .calls ≡ sealCalls (agreementNamed s) s keys
+  calls-are : readOf A keys s .calls ≡ sealCalls A s keys
   unfolding acceptedSlip
-  calls-are = ap (λ (r : Slip). r .calls) (accepted-is s keys yes)
+  calls-are = ap (λ (r : Slip). r .calls) (accepted-is A keys s yes)
 
-  lot-is : take (readOf s keys .contents .«lot_len») (drop (readOf s keys .contents .«lot_at») s) ≡ value (lotField s)
+  lot-is : take (readOf A keys s .contents .«lot_len») (drop (readOf A keys s .contents .«lot_at») s) ≡ value (lotField s)
   unfolding contentsOf value lotField
   lot-is = ap (λ (c : Contents). take (c .«lot_len») (drop (c .«lot_at») s)) contents-are ∙ ap (take (lengthOf (lotField s))) (sym (drop-drop 3 (lotAt s) s))
 
@@ -272,18 +282,18 @@ module _ (s keys : List ℕ) (yes : Accepted s keys) (κs : Lfts 3) (a : Dens κ
       λ i. said ((again .year ∙ ap (λ (k : Contents). k .year) c) i) ((again .month ∙ ap (λ (k : Contents). k .month) c) i) ((again .day ∙ ap (λ (k : Contents). k .day) c) i) ((again .lot ∙ lot-is) i) ((again .amount ∙ ap (λ (k : Contents). k .amount) c) i)
 
   -- it comes out byte for byte, with its length and the calls that were read
-  pub writes-again : (x .result, roomLeft κs a x) ≡ writtenAs s (readOf s keys .calls) (roomGiven κs a)
+  pub writes-again : (x .result, roomLeft κs a x) ≡ writtenAs s (readOf A keys s .calls) (roomGiven κs a)
   writes-again =
-      let named = agreementNamed s in
       let room = roomGiven κs a in
-      let same = read-printed s keys yes in
+      let same = read-printed A keys s yes in
       x .ensures ∙ (λ i. writeOf (again .agreed i) (again .keyed i) (same-says i) room)
-      ∙ written-is named keys (saysOf s) room (clear-of named keys (saysOf s) room (writable-again s keys yes) (omega (arith, ap length same, again .room)))
-      ∙ ap₂ (λ (t : List ℕ) (n : ℕ). writtenAs t n room) same (calls-again s keys yes ∙ sym calls-are)
+      ∙ written-is A keys (saysOf s) room (clear-of A keys (saysOf s) room (writable-again A keys s yes) (omega (arith, ap length same, again .room)))
+      ∙ ap₂ (λ (t : List ℕ) (n : ℕ). writtenAs t n room) same (calls-again A keys s yes ∙ sym calls-are)
 
-module _ (λs : Lfts 2) (b : Dens λs read-k.ps) (y : Allowed read-k.ps read-k.r read.Learnt λs b) (good : y .result .number ≡ 0)
-    (κs : Lfts 3) (a : Dens κs write-k.ps) (x : Writing κs a) (again : Again (b .0 .now) (b .1 .0 .now) (y .result .contents) κs a) where
-  pub read-written : (x .result, roomLeft κs a x) ≡ writtenAs (b .0 .now) (y .result .calls) (roomGiven κs a)
+module _ (λs : Lfts 2) (b : Dens λs read-k.ps) (y : Reading λs b) (good : y .result .number ≡ 0)
+    (κs : Lfts 3) (a : Dens κs write-k.ps) (x : Writing κs a) (again : Again (b .0) (keysRead λs b) (slipRead λs b) (y .result .contents) κs a) where
+  pub read-written : (x .result, roomLeft κs a x) ≡ writtenAs (slipRead λs b) (y .result .calls) (roomGiven κs a)
   read-written =
-      writes-again (b .0 .now) (b .1 .0 .now) (sym (read-number λs b y) ∙ good) κs a x (subst (λ (r : Slip). Again (b .0 .now) (b .1 .0 .now) (r .contents) κs a) (y .ensures) again)
-      ∙ ap (λ (r : Slip). writtenAs (b .0 .now) (r .calls) (roomGiven κs a)) (sym (y .ensures))
+      writes-again (b .0) (keysRead λs b) (slipRead λs b) (read-accepted λs b y good) κs a x
+      (subst (λ (r : Slip). Again (b .0) (keysRead λs b) (slipRead λs b) (r .contents) κs a) (y .ensures) again)
+      ∙ ap (λ (r : Slip). writtenAs (slipRead λs b) (r .calls) (roomGiven κs a)) (sym (y .ensures))

@@ -1,8 +1,7 @@
--- Printing and reading undo each other. At the shelf: a slip that was printed is accepted under the same keys and says what it was
--- to say (`printed-read`); a slip that was accepted, printed again from what it says and names, is that slip byte for byte
--- (`read-printed`). So under an agreement and keys, what can be printed and the slips that are accepted and name the agreement
--- correspond one to one (`one-to-one`). Names with printed speak of the definitions; those of PrintedAnswers.antt, with written, of the
--- code's answers.
+-- Printing and reading undo each other, under one agreement and the same keys. At the shelf: a slip that was printed is accepted and
+-- says what it was to say (`printed-read`); a slip that was accepted, printed again from what it says, is that slip byte for byte
+-- (`read-printed`). So what can be printed and the slips that are accepted correspond one to one (`one-to-one`). Names with printed
+-- speak of the definitions; those of PrintedAnswers.antt, with written, of the code's answers.
 -- Assumes nothing.
 use mathlib.Core.Path.{_≡_, refl, sym, ap, ap₂, _∙_, subst}
 use mathlib.Core.Bool.{false, not}
@@ -28,18 +27,18 @@ use Rattle.fields.specs.Format.{sealRow}
 use Rattle.fields.specs.Field.{lengthOf, value, fieldOf}
 use Rattle.fields.specs.Layout.{lotAt, lotField, sealField, covered, layoutFaults}
 use Rattle.fields.proofs.Formed.{any-byte}
-use Rattle.fields.proofs.Laid.{LaidOut, layout-numbered}
+use Rattle.fields.proofs.Laid.{LaidOut}
 use Rattle.fields.proofs.Written.{written-value}
 use Rattle.fields.proofs.Whole.{covered-then-seal}
 use Rattle.writing.specs.Writing.{Says, saysFaults, coveredOf}
 use Rattle.writing.proofs.Sayable.{Sayable, sayable, unrefused, length-covered}
 use Rattle.writing.proofs.ReadBack.{saysOf, seal-back, covered-back, covered-all, says-back, lot-value-back, lot-length-back, lot-at-back, layout-back}
 use Rattle.writing.proofs.WriteBack.{sayable-again, covered-again}
-use Rattle.slip.specs.Slip.{sealValue, agreementNamed, tagNamed, sealDefined, sealCalls, sealWrong, agreementFaults, faultsUnder, slipFaults, contentsOf, acceptedSlip, readOf}
+use Rattle.slip.specs.Slip.{sealValue, namedValues, agreedValues, agreementUnmet, tagNamed, sealDefined, sealCalls, sealWrong, agreementFaults, slipFaults, contentsOf, acceptedSlip, readOf}
 use Rattle.slip.specs.Printed.{sealedBy, slipOf, slipCalls}
 use Rattle.slip.specs.declared.Contents.{Contents}
 use Rattle.slip.specs.declared.Slip.{Slip}
-use Rattle.slip.proofs.Judged.{Believed, believed, agreement-numbered}
+use Rattle.slip.proofs.Judged.{Believed, believed, agreement-numbered, met-first}
 use Rattle.slip.proofs.Whole.{Accepted, seal-is}
 use Rattle.slip.proofs.Numbers.{accepted-is}
 use Rattle.slip.proofs.Printing.{length-seal, length-sealed}
@@ -79,9 +78,10 @@ module _ (A : Agreement) (keys : List ℕ) (x : Says) (ok : Writable A keys x) w
   unfolding slipOf sealedBy
   seal-printed = seal-back x (fieldOf sealRow (sealValue A seal))
 
-  pub agreement-printed : agreementNamed printed ≡ A
-  unfolding agreementNamed
-  agreement-printed = rw seal-printed refl
+  -- the seal names what was agreed
+  names-printed : agreementUnmet A (sealField printed) ≡ false
+  unfolding agreementUnmet namedValues
+  names-printed = rw seal-printed (ap not (sameBytes-true (agreedValues A) (agreedValues A) refl))
 
   tag-printed : tagNamed printed ≡ seal
   unfolding tagNamed
@@ -130,12 +130,10 @@ module _ (A : Agreement) (keys : List ℕ) (x : Says) (ok : Writable A keys x) w
   unfolding sealWrong
   seal-right = ap not (sameBytes-true _ _ (tag-printed ∙ sym seal-same))
 
-  pub accepted-printed : Accepted printed keys
-  unfolding slipFaults faultsUnder
+  pub accepted-printed : Accepted A keys printed
   accepted-printed =
-      rw agreement-printed
-      (first-append-clear (layoutFaults printed) _ (layout-numbered printed) layout-printed
-      ∙ first-append-clear (agreementFaults A keys) _ (agreement-numbered A keys) (ok .settings) ∙ clear-first (passed tag-length-right (passed seal-right done)))
+      met-first A keys printed layout-printed names-printed
+      ∙ first-append-clear (agreementFaults A keys) _ (agreement-numbered A keys) (ok .settings) ∙ clear-first (passed tag-length-right (passed seal-right done))
 
   contents-printed : contentsOf printed ≡ saidSlip x 0 .contents
   unfolding contentsOf slipOf sealedBy
@@ -145,12 +143,10 @@ module _ (A : Agreement) (keys : List ℕ) (x : Says) (ok : Writable A keys x) w
       let at : lotAt printed + 3 ≡ 14 = omega (arith, lot-at-back x rest) in
       λ i. record { year = same i .year; month = same i .month; day = same i .day; amount = same i .amount; «lot_at» = at i; «lot_len» = lot-length-back x rest i }
 
-  -- accepted under the same keys, with date, lot, amount and calls as they were
-  pub printed-read : readOf printed keys ≡ saidSlip x (slipCalls A keys x)
+  -- accepted, with date, lot, amount and calls as they were
+  pub printed-read : readOf A keys printed ≡ saidSlip x (slipCalls A keys x)
   unfolding acceptedSlip
-  printed-read =
-      accepted-is printed keys accepted-printed
-      ∙ ap₂ (λ (calls : ℕ) (c : Contents). record { number = 0; calls = calls; contents = c }) (ap (λ (B : Agreement). sealCalls B printed keys) agreement-printed ∙ calls-same) contents-printed
+  printed-read = accepted-is A keys printed accepted-printed ∙ ap₂ (λ (calls : ℕ) (c : Contents). record { number = 0; calls = calls; contents = c }) calls-same contents-printed
 
   -- and the lot is there, byte for byte
   pub lot-printed : take (length (x .lot)) (drop 14 printed) ≡ x .lot
@@ -162,42 +158,38 @@ module _ (A : Agreement) (keys : List ℕ) (x : Says) (ok : Writable A keys x) w
 
 -- ---- what was read is printed again
 
-module _ (s keys : List ℕ) (yes : Accepted s keys) where
-  abbrev named : Agreement
-  named = agreementNamed s
+module _ (A : Agreement) (keys s : List ℕ) (yes : Accepted A keys s) where
+  judged : Believed A keys s
+  judged = believed A keys s yes
 
-  judged : Believed named s keys
-  unfolding slipFaults
-  judged = believed named s keys yes
-
-  pub writable-again : Writable named keys (saysOf s)
+  pub writable-again : Writable A keys (saysOf s)
   writable-again = record { says = unrefused (saysOf s) (sayable-again s (judged .fields)); settings = judged .settings }
 
   front-again : covered (coveredOf (saysOf s)) ≡ covered s
   front-again = covered-all (saysOf s) ∙ covered-again s (judged .fields)
 
-  -- printed from what it says and names, it comes out byte for byte
-  pub read-printed : slipOf named keys (saysOf s) ≡ s
+  -- printed from what it says, it comes out byte for byte
+  pub read-printed : slipOf A keys (saysOf s) ≡ s
   unfolding slipOf sealedBy sealDefined
   read-printed =
-      ap₂ (λ (front c : List ℕ). front ++ fieldOf sealRow (sealValue named (tagBytes (tagAt (settingsOf named) (keysOf keys) c (8 * length c))))) (covered-again s (judged .fields)) front-again
-      ∙ ap (λ (f : List ℕ). covered s ++ f) (sym (seal-is s keys yes)) ∙ sym (covered-then-seal s (judged .fields))
+      ap₂ (λ (front c : List ℕ). front ++ fieldOf sealRow (sealValue A (tagBytes (tagAt (settingsOf A) (keysOf keys) c (8 * length c))))) (covered-again s (judged .fields)) front-again
+      ∙ ap (λ (f : List ℕ). covered s ++ f) (sym (seal-is A keys s yes)) ∙ sym (covered-then-seal s (judged .fields))
 
-  pub calls-again : slipCalls named keys (saysOf s) ≡ sealCalls named s keys
+  pub calls-again : slipCalls A keys (saysOf s) ≡ sealCalls A s keys
   unfolding slipCalls sealCalls
-  calls-again = ap (λ (c : List ℕ). callsAt (settingsOf named) (keysOf keys) c (8 * length c)) front-again
+  calls-again = ap (λ (c : List ℕ). callsAt (settingsOf A) (keysOf keys) c (8 * length c)) front-again
 
 -- ---- both at once
 
--- under an agreement and keys: each content that can be printed has its slip, which is accepted, names the agreement and says the content;
--- each slip that is accepted and names the agreement says a content that can be printed, and is its slip
+-- under an agreement and keys: each content that can be printed has its slip, which is accepted and says the content; each slip that is
+-- accepted says a content that can be printed, and is its slip
 pub record OneToOne (A : Agreement) (keys : List ℕ) : Type 0 where
-  pub print : (x : Says) → Writable A keys x → Accepted (slipOf A keys x) keys × ((agreementNamed (slipOf A keys x) ≡ A) × (saysOf (slipOf A keys x) ≡ x))
-  pub read : (s : List ℕ) → Accepted s keys → agreementNamed s ≡ A → Writable A keys (saysOf s) × (slipOf A keys (saysOf s) ≡ s)
+  pub print : (x : Says) → Writable A keys x → Accepted A keys (slipOf A keys x) × (saysOf (slipOf A keys x) ≡ x)
+  pub read : (s : List ℕ) → Accepted A keys s → Writable A keys (saysOf s) × (slipOf A keys (saysOf s) ≡ s)
 
 pub one-to-one : (A : Agreement) (keys : List ℕ) → OneToOne A keys
 unfolding slipOf sealedBy
 one-to-one A keys = record {
-  print = λ x ok. (accepted-printed A keys x ok, (agreement-printed A keys x ok, says-back x _ (said-well A keys x ok)));
-  read = λ s yes names. (subst (λ (B : Agreement). Writable B keys (saysOf s)) names (writable-again s keys yes), ap (λ (B : Agreement). slipOf B keys (saysOf s)) (sym names) ∙ read-printed s keys yes);
+  print = λ x ok. (accepted-printed A keys x ok, says-back x _ (said-well A keys x ok));
+  read = λ s yes. (writable-again A keys s yes, read-printed A keys s yes);
 }

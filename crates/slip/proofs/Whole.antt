@@ -1,9 +1,9 @@
--- An accepted slip was judged whole: every byte of it is a field's label or length, a checked value, a setting, or a compared seal
--- byte (`whole`). At the scanner: a yes stands for all bytes of the slip, not for those that the first read brought.
+-- An accepted slip was judged whole: every byte of it is a field's label or length, a checked value, an agreed value, or a compared
+-- seal byte (`whole`). At the scanner: a yes stands for all bytes of the slip, not for those that the first read brought.
 --
--- `equal-slips`: two accepted slips under the same keys that agree in the covered bytes, the algorithm, the padding and m are equal.
--- `seals-differ`: two accepted slips that differ, name the same settings with full tags, and differ only inside one stretch of 128
--- covered bits, have different seals. This is demand 3 (`promised-at` of crate mac).
+-- `equal-slips`: two slips that are accepted under one agreement and the same keys and agree in the covered bytes are one slip.
+-- `seals-differ`: two that differ, accepted under an agreement of full tags, and differ only inside one stretch of 128 covered bits,
+-- have different seals. This is demand 3 (`promised-at` of crate mac).
 -- Assumes nothing.
 use mathlib.Core.Path.{_≡_, refl, sym, ap, ap₂, _∙_, subst}
 use mathlib.Core.Bool.{Bool, true, false}
@@ -36,22 +36,18 @@ use Rattle.fields.specs.Layout.{sealAt, lotField, amountField, sealField, cover
 use Rattle.fields.proofs.Formed.{Within, within-all, end-whole}
 use Rattle.fields.proofs.Dates.{Real, real-date}
 use Rattle.fields.proofs.Whole.{Bytewise, value-long, seal-alone, covered-then-seal, four-fields, slip-bytes}
-use Rattle.slip.specs.Slip.{sealValue, agreementNamed, tagNamed, sealDefined, sealWrong, slipFaults}
+use Rattle.slip.specs.Slip.{sealValue, namedValues, agreedValues, agreementUnmet, tagNamed, sealDefined, sealWrong, slipFaults}
 use Rattle.settings.specs.declared.Agreement.{Agreement}
 use Rattle.slip.proofs.Judged.{Believed, believed}
 
 -- no rule refuses the slip
-abbrev pub Accepted : List ℕ → List ℕ → Type 0
-Accepted s keys = firstOf (slipFaults s keys) ≡ 0
+abbrev pub Accepted : Agreement → List ℕ → List ℕ → Type 0
+Accepted A keys s = firstOf (slipFaults A keys s) ≡ 0
 
 -- ---- what is said
 
--- the seal that the slip's own settings give
-abbrev pub sealOf : List ℕ → List ℕ → List ℕ
-sealOf s keys = sealDefined (agreementNamed s) s keys
-
-pub record Whole (s keys : List ℕ) : Type 0 where
-  pub bytes : s ≡ fieldOf expiryRow (value s) ++ (fieldOf lotRow (value (lotField s)) ++ (fieldOf amountRow (value (amountField s)) ++ fieldOf sealRow (sealValue (agreementNamed s) (sealOf s keys))))
+pub record Whole (A : Agreement) (keys s : List ℕ) : Type 0 where
+  pub bytes : s ≡ fieldOf expiryRow (value s) ++ (fieldOf lotRow (value (lotField s)) ++ (fieldOf amountRow (value (amountField s)) ++ fieldOf sealRow (sealValue A (sealDefined A s keys))))
   pub expiry-length : length (value s) ≡ 8
   pub digits : (i : ℕ) → i < length (value s) → Within 0x30 0x39 (getD (value s) i 0)
   pub date : Real (yearOf s) (monthOf s) (dayOf s)
@@ -62,10 +58,9 @@ pub record Whole (s keys : List ℕ) : Type 0 where
 
 -- ---- the seal
 
-module _ (s keys : List ℕ) (yes : Accepted s keys) where
-  good : Believed (agreementNamed s) s keys
-  unfolding slipFaults
-  good = believed (agreementNamed s) s keys yes
+module _ (A : Agreement) (keys s : List ℕ) (yes : Accepted A keys s) where
+  good : Believed A keys s
+  good = believed A keys s yes
 
   seal-value : value (sealField s) ≡ drop 3 (sealField s)
   unfolding value
@@ -77,13 +72,13 @@ module _ (s keys : List ℕ) (yes : Accepted s keys) where
       ended = omega (arith, good .fields .ended, end-whole (sealField s) (good .fields .seal .whole))
 
   -- the seal's bytes are the defined ones, all of them
-  pub tag-defined : tagNamed s ≡ sealOf s keys
+  pub tag-defined : tagNamed s ≡ sealDefined A s keys
   unfolding sealWrong
-  tag-defined = sameBytes-eq (tagNamed s) (sealOf s keys) (not-false _ (good .seal))
+  tag-defined = sameBytes-eq (tagNamed s) (sealDefined A s keys) (not-false _ (good .seal))
 
-  -- algorithm, padding and m stand before them
-  named-first : value (sealField s) ≡ sealValue (agreementNamed s) (tagNamed s)
-  unfolding agreementNamed tagNamed
+  -- before them stand the three values that the seal names
+  named-first : value (sealField s) ≡ namedValues (sealField s) ++ tagNamed s
+  unfolding namedValues tagNamed
   named-first =
       let f = sealField s in
       let long = ok-long in
@@ -96,10 +91,15 @@ module _ (s keys : List ℕ) (yes : Accepted s keys) where
       ok-long : 4 ≤ length (value (sealField s))
       ok-long = omega (arith, value-long sealRow (sealField s) (good .fields .seal), good .fields .seal .allowed .low)
 
-  pub seal-is : sealField s ≡ fieldOf sealRow (sealValue (agreementNamed s) (sealOf s keys))
-  seal-is = seal-alone s (good .fields) ∙ ap (fieldOf sealRow) (named-first ∙ ap (sealValue (agreementNamed s)) tag-defined)
+  -- which are the agreed ones
+  pub named-agreed : namedValues (sealField s) ≡ agreedValues A
+  unfolding agreementUnmet
+  named-agreed = sameBytes-eq (namedValues (sealField s)) (agreedValues A) (not-false _ (good .names))
 
-  pub whole : Whole s keys
+  pub seal-is : sealField s ≡ fieldOf sealRow (sealValue A (sealDefined A s keys))
+  seal-is = seal-alone s (good .fields) ∙ ap (fieldOf sealRow) (named-first ∙ ap₂ _++_ named-agreed tag-defined)
+
+  pub whole : Whole A keys s
   whole = record {
     bytes = four-fields s (good .fields) ∙ ap (λ (v : List ℕ). fieldOf expiryRow (value s) ++ (fieldOf lotRow (value (lotField s)) ++ (fieldOf amountRow (value (amountField s)) ++ v))) (sym (seal-alone s (good .fields)) ∙ seal-is);
     expiry-length = omega (arith, value-long expiryRow s (good .fields .expiry), good .fields .expiry .allowed .low, good .fields .expiry .allowed .high);
@@ -121,26 +121,24 @@ fit-covered s fit i = go (ltb i (sealAt s)) refl
     go true e = subst (λ (x : ℕ). x < 256) (sym (getD-take (sealAt s) s i 0 (ltb-true i (sealAt s) e))) (fit i)
     go false e = subst (λ (x : ℕ). x < 256) (sym (List·getD-eq-default (take (sealAt s) s) 0 (omega (arith, length-take (sealAt s) s, ltb-false i (sealAt s) e)))) (omega arith)
 
-module _ (s t keys : List ℕ) (yes-s : Accepted s keys) (yes-t : Accepted t keys)
-    (agree : agreementNamed s ≡ agreementNamed t) where
+module _ (A : Agreement) (keys s t : List ℕ) (yes-s : Accepted A keys s) (yes-t : Accepted A keys t) where
   pub equal-slips : covered s ≡ covered t → s ≡ t
   unfolding sealDefined
   equal-slips e =
-      covered-then-seal s (good s keys yes-s .fields)
-      ∙ ap₂ _++_ e (seal-is s keys yes-s ∙ rw (agree, e) refl ∙ sym (seal-is t keys yes-t))
-      ∙ sym (covered-then-seal t (good t keys yes-t .fields))
+      covered-then-seal s (good A keys s yes-s .fields)
+      ∙ ap₂ _++_ e (seal-is A keys s yes-s ∙ rw e refl ∙ sym (seal-is A keys t yes-t))
+      ∙ sym (covered-then-seal t (good A keys t yes-t .fields))
 
-  -- the seal of a slip under t's settings at full length, as demand 3 speaks of it
-  full-seal : agreementNamed t .m ≡ 128 → (x : List ℕ) → sealDefined (agreementNamed t) x keys ≡ fullBytes (cipherAt 1) (algorithmAt (agreementNamed t .algorithm)) (methodAt (agreementNamed t .padding)) (keysOf keys) (bytesBits (covered x))
+  -- a seal of full length, as demand 3 speaks of it
+  full-seal : A .m ≡ 128 → (x : List ℕ) → sealDefined A x keys ≡ fullBytes (cipherAt 1) (algorithmAt (A .algorithm)) (methodAt (A .padding)) (keysOf keys) (bytesBits (covered x))
   unfolding sealDefined tagAt bitsOf
   full-seal full x =
-      ap (λ (m : ℕ). tagBytes (tagAt (record { algorithm = agreementNamed t .algorithm; padding = agreementNamed t .padding; m = m }) (keysOf keys) (covered x) (8 * length (covered x)))) (full ∙ sym sm4-width)
-      ∙ ap (fullBytes (cipherAt 1) (algorithmAt (agreementNamed t .algorithm)) (methodAt (agreementNamed t .padding)) (keysOf keys)) (take-all (8 * length (covered x)) (bytesBits (covered x)) (omega (arith, length-bytesBits (covered x))))
+      ap (λ (m : ℕ). tagBytes (tagAt (record { algorithm = A .algorithm; padding = A .padding; m = m }) (keysOf keys) (covered x) (8 * length (covered x)))) (full ∙ sym sm4-width)
+      ∙ ap (fullBytes (cipherAt 1) (algorithmAt (A .algorithm)) (methodAt (A .padding)) (keysOf keys)) (take-all (8 * length (covered x)) (bytesBits (covered x)) (omega (arith, length-bytesBits (covered x))))
 
-  pub seals-differ : agreementNamed t .m ≡ 128 → (j : ℕ) → Apart 128 j (bytesBits (covered s)) (bytesBits (covered t)) → ¬ (s ≡ t) → ¬ (tagNamed s ≡ tagNamed t)
+  pub seals-differ : A .m ≡ 128 → (j : ℕ) → Apart 128 j (bytesBits (covered s)) (bytesBits (covered t)) → ¬ (s ≡ t) → ¬ (tagNamed s ≡ tagNamed t)
   seals-differ full j h differ e =
       let long : length (covered s) ≡ length (covered t) = omega (arith, h .same-length, length-bytesBits (covered s), length-bytesBits (covered t)) in
-      let of-s : tagNamed s ≡ sealDefined (agreementNamed t) s keys = tag-defined s keys yes-s ∙ ap (λ (A : Agreement). sealDefined A s keys) agree in
-      promised-at 1 (algorithmAt (agreementNamed t .algorithm)) (methodAt (agreementNamed t .padding)) (keysOf keys) .differs-bytes j (bytesBits (covered s)) (bytesBits (covered t)) (subst (λ (k : ℕ). Apart k j (bytesBits (covered s)) (bytesBits (covered t))) (sym sm4-width) h)
-      (λ same. differ (equal-slips (bytesBits-inj (covered s) (covered t) (fit-covered s (slip-bytes s (good s keys yes-s .fields))) (fit-covered t (slip-bytes t (good t keys yes-t .fields))) long same)))
-      (sym (full-seal full s) ∙ sym of-s ∙ e ∙ tag-defined t keys yes-t ∙ full-seal full t)
+      promised-at 1 (algorithmAt (A .algorithm)) (methodAt (A .padding)) (keysOf keys) .differs-bytes j (bytesBits (covered s)) (bytesBits (covered t)) (subst (λ (k : ℕ). Apart k j (bytesBits (covered s)) (bytesBits (covered t))) (sym sm4-width) h)
+      (λ same. differ (equal-slips (bytesBits-inj (covered s) (covered t) (fit-covered s (slip-bytes s (good A keys s yes-s .fields))) (fit-covered t (slip-bytes t (good A keys t yes-t .fields))) long same)))
+      (sym (full-seal full s) ∙ sym (tag-defined A keys s yes-s) ∙ e ∙ tag-defined A keys t yes-t ∙ full-seal full t)

@@ -1,4 +1,5 @@
--- A lot slip read under keys: its fields, then its seal, and the whole answer (01, "The lot slip").
+-- A lot slip read under what was agreed and keys: its fields, what its seal names, then its seal, and the whole answer (01, "The lot
+-- slip"; 02 §2).
 -- Assumes nothing.
 use mathlib.Core.Bool.{Bool, not}
 use mathlib.Core.List.{List, [], _∷_, _++_}
@@ -25,8 +26,16 @@ use Rattle.slip.specs.declared.Slip.{Slip}
 abbrev pub sealValue : Agreement → List ℕ → List ℕ
 sealValue A tag = A .algorithm ∷ A .padding ∷ A .m ∷ tag
 
-unfoldable pub agreementNamed : List ℕ → Agreement
-agreementNamed s = record { algorithm = getD (sealField s) 3 0; padding = getD (sealField s) 4 0; m = getD (sealField s) 5 0 }
+-- the three values that a seal field names, and the three that were agreed
+unfoldable pub namedValues : List ℕ → List ℕ
+namedValues field = getD field 3 0 ∷ getD field 4 0 ∷ getD field 5 0 ∷ []
+
+abbrev pub agreedValues : Agreement → List ℕ
+agreedValues A = A .algorithm ∷ A .padding ∷ A .m ∷ []
+
+-- 25: the seal names another algorithm, padding or m than agreed (02 §2)
+unfoldable pub agreementUnmet : Agreement → List ℕ → Bool
+agreementUnmet A field = not (sameBytes (namedValues field) (agreedValues A))
 
 unfoldable pub tagNamed : List ℕ → List ℕ
 tagNamed s = drop 3 (value (sealField s))
@@ -44,19 +53,20 @@ sealCalls A s keys = callsAt (settingsOf A) (keysOf keys) (covered s) (8 * lengt
 unfoldable pub sealWrong : Agreement → List ℕ → List ℕ → Bool
 sealWrong A s keys = not (sameBytes (tagNamed s) (sealDefined A s keys))
 
--- ---- the order: 20 to 24 field by field, then 1 to 6, then 10, then 30
+-- ---- the order: 20 to 24 field by field, then 25, then 1 to 6, then 10, then 30
 
 -- 1 to 6 for an agreement and keys
 abbrev pub agreementFaults : Agreement → List ℕ → List Fault
 agreementFaults A keys = settingsFaults A (length keys) (keysOf keys)
 
-unfoldable pub faultsUnder : Agreement → List ℕ → List ℕ → List Fault
-faultsUnder A s keys =
+unfoldable pub slipFaults : Agreement → List ℕ → List ℕ → List Fault
+slipFaults A keys s =
     layoutFaults s ++
+    (25 given agreementUnmet A (sealField s) ∷
     (agreementFaults A keys ++
     (10 given tagLengthWrong (A .m) (length (tagNamed s)) ∷
     30 given sealWrong A s keys ∷
-    []))
+    [])))
 
 -- ---- the answers
 
@@ -82,15 +92,7 @@ refusedSlip number = record {
   contents = record { year = 0; month = 0; day = 0; amount = 0; «lot_at» = 0; «lot_len» = 0 };
 }
 
--- under an agreement that is given
-unfoldable pub readUnder : Agreement → List ℕ → List ℕ → Slip
-readUnder A s keys =
-    let no = firstOf (faultsUnder A s keys) in
+unfoldable pub readOf : Agreement → List ℕ → List ℕ → Slip
+readOf A keys s =
+    let no = firstOf (slipFaults A keys s) in
     pick (eqb no 0) (acceptedSlip s (sealCalls A s keys)) (refusedSlip no)
-
--- algorithm, padding and m are taken from the slip
-unfoldable pub slipFaults : List ℕ → List ℕ → List Fault
-slipFaults s keys = faultsUnder (agreementNamed s) s keys
-
-unfoldable pub readOf : List ℕ → List ℕ → Slip
-readOf s keys = readUnder (agreementNamed s) s keys

@@ -1,12 +1,13 @@
-// A lot slip, read whole under the caller's keys: believed, or refused with its number. Where its fields stand is found once. The
-// seal is checked under settings that the inner function is given; that they are the ones the slip names is the outer one's doing.
+// A lot slip, read whole under what was agreed and the caller's keys: believed, or refused with its number. Where its fields stand is
+// found once. What the slip names is compared with the agreement and used for nothing else: the seal is checked under the agreement.
 // And a lot slip written: nothing is put into the room before the last test.
 ghost use mathlib.Core.Path.{_≡_};
 ghost use Prim.Native.Nat.{_≤_, _<_};
 ghost use lib.ListN.{length, take};
 ghost use Rattle.bits.specs.Choice.{firstOf};
-ghost use Rattle.fields.specs.Layout.{placesOf, covered, layoutFaults};
-ghost use Rattle.slip.specs.Slip.{contentsOf, refusedSlip, readUnder, readOf};
+ghost use mathlib.Core.Bool.{false};
+ghost use Rattle.fields.specs.Layout.{placesOf, sealField, covered, layoutFaults};
+ghost use Rattle.slip.specs.Slip.{agreementUnmet, contentsOf, refusedSlip, readOf};
 ghost use Rattle.slip.specs.Part.{seen, lotPart, lotPartIn};
 ghost use Rattle.mac.specs.Tag.{bytesFor};
 ghost use Rattle.writing.specs.Writing.{said};
@@ -64,10 +65,23 @@ fn contents_of(slip: &[u8], at: fields::Places) -> Contents
     }
 }
 
-// A slip without a fault in its fields, by its seal under what was agreed.
-fn read_under(agreed: settings::Agreement, slip: &[u8], at: fields::Places, keys: &[u8]) -> Slip
-    requires { ⌜ (at ≡ placesOf (now slip)) × (firstOf (layoutFaults (now slip)) ≡ 0) ⌝ }
-    ensures { λ r. ⌜ r ≡ readUnder agreed (now (slip .entry)) (now (keys .entry)) ⌝ }
+// Whether a seal field names another algorithm, padding or m than agreed.
+fn agreement_unmet(agreement: settings::Agreement, field: &[u8]) -> bool
+    ensures { λ r. ⌜ r ≡ agreementUnmet agreement (now (field .entry)) ⌝ }
+{
+    if fields::byte_at(field, 3) != agreement.algorithm {
+        return true;
+    }
+    if fields::byte_at(field, 4) != agreement.padding {
+        return true;
+    }
+    fields::byte_at(field, 5) != agreement.m
+}
+
+// A slip that has no fault in its fields and names what was agreed, by its seal.
+fn read_under(agreed: settings::Agreement, keys: &[u8], slip: &[u8], at: fields::Places) -> Slip
+    requires { ⌜ (at ≡ placesOf (now slip)) × (firstOf (layoutFaults (now slip)) ≡ 0) × (agreementUnmet agreed (sealField (now slip)) ≡ false) ⌝ }
+    ensures { λ r. ⌜ r ≡ readOf agreed (now (keys .entry)) (now (slip .entry)) ⌝ }
 {
     let seal = at.seal;
     let tag_at = seal + 6;
@@ -83,9 +97,9 @@ fn read_under(agreed: settings::Agreement, slip: &[u8], at: fields::Places, keys
     }
 }
 
-// Reads a slip under keys.
-pub fn read(slip: &[u8], keys: &[u8]) -> Slip
-    ensures { λ r. ⌜ r ≡ readOf (now (slip .entry)) (now (keys .entry)) ⌝ }
+// Reads a slip under what was agreed and keys.
+pub fn read(agreement: settings::Agreement, keys: &[u8], slip: &[u8]) -> Slip
+    ensures { λ r. ⌜ r ≡ readOf agreement (now (keys .entry)) (now (slip .entry)) ⌝ }
 {
     let layout = fields::laid_out(slip);
     let no = layout.refusal;
@@ -94,13 +108,10 @@ pub fn read(slip: &[u8], keys: &[u8]) -> Slip
     }
     let at = layout.places;
     let seal = at.seal;
-    let named = &slip[seal..];
-    let agreed = settings::Agreement {
-        algorithm: fields::byte_at(named, 3),
-        padding: fields::byte_at(named, 4),
-        m: fields::byte_at(named, 5),
-    };
-    read_under(agreed, slip, at, keys)
+    if agreement_unmet(agreement, &slip[seal..]) {
+        return refused(25);
+    }
+    read_under(agreement, keys, slip, at)
 }
 
 // The lot of a slip that was read already, as that very part of it; the slip's first zero bytes where it does not lie in the slip.
@@ -120,10 +131,10 @@ pub fn lot_in<'a>(slip: &'a [u8], contents: Contents) -> &'a [u8]
 }
 
 // The lot of an accepted slip as that very part of it; the slip's first zero bytes where it is refused.
-pub fn lot<'a>(slip: &'a [u8], keys: &[u8]) -> &'a [u8]
-    ensures { λ r. ⌜ seen r ≡ lotPart (slip .entry) (readOf (now (slip .entry)) (now (keys .entry)) .contents) ⌝ }
+pub fn lot<'a>(agreement: settings::Agreement, keys: &[u8], slip: &'a [u8]) -> &'a [u8]
+    ensures { λ r. ⌜ seen r ≡ lotPart (slip .entry) (readOf agreement (now (keys .entry)) (now (slip .entry)) .contents) ⌝ }
 {
-    let read = read(slip, keys);
+    let read = read(agreement, keys, slip);
     let contents = read.contents;
     lot_in(slip, contents)
 }

@@ -1,9 +1,9 @@
 -- Slips through C, said of every answer that the contracts of `slipseal_write` and `slipseal_read` allow: what was written is read
--- back under the same keys (`c-written-read`, `c-written-lot`), and an accepted slip written again from what was read is that slip
--- (`c-read-written`); a refused call leaves the room (`write-untouched`). `slipseal_write` keeps the contract of `slip::write` word
--- for word, so its answers are that function's.
+-- back under the same agreement and keys (`c-written-read`, `c-written-lot`), and an accepted slip written again from what was read is
+-- that slip (`c-read-written`); an accepted slip names what was agreed (`c-read-agrees`); a refused call leaves the room
+-- (`write-untouched`). `slipseal_write` keeps the contract of `slip::write` word for word, so its answers are that function's.
 -- Assumes nothing.
-use mathlib.Core.Path.{_≡_, refl, sym, ap, ap₂, _∙_, subst}
+use mathlib.Core.Path.{_≡_, refl, sym, ap, _∙_, subst}
 use mathlib.Core.Bool.{Bool, true, false}
 use mathlib.Core.List.{List}
 use Prim.Native.Nat.{ℕ}
@@ -14,13 +14,15 @@ use borrow.Author.Tests.{eqb-true, eqb-false}
 use borrow.Fn.Kinds.{Dens}
 use Rattle.bits.specs.Choice.{firstOf}
 use Rattle.bits.specs.Once.{Allowed}
+use Rattle.settings.specs.declared.Agreement.{Agreement}
 use Rattle.slip.specs.Slip.{slipFaults, refusedSlip, readOf}
 use Rattle.slip.specs.declared.Contents.{Contents}
 use Rattle.slip.specs.declared.Slip as slip
 use Rattle.slip.proofs.Whole.{Accepted}
 use Rattle.slip.proofs.RoundTrip.{saidSlip}
-use Rattle.slip.proofs.Numbers.{refused-is}
-use Rattle.slip.proofs.PrintedAnswers.{keysGiven, saysGiven, roomGiven, roomLeft, unwrittenOf, writtenAs, write-number, reads-back, lot-back, Again, writes-again}
+use Rattle.slip.proofs.Numbers.{refused-is, keysRead, slipRead}
+use Rattle.slip.proofs.Agreed.{Agrees, accepted-agrees}
+use Rattle.slip.proofs.PrintedAnswers.{keysGiven, saysGiven, roomGiven, roomLeft, unwrittenOf, writtenAs, write-number, reads-lent, lot-back, Again, writes-again}
 use Rattle.slip.proofs.PrintedAnswers as slip-answers
 use Rattle.slipseal.specs.declared.Slip.{Slip}
 use Rattle.slipseal.specs.Border.{toldSlip}
@@ -44,35 +46,43 @@ module _ (κs : Lfts 3) (a : Dens κs write-k.ps) (x : Written κs a) where
   pub write-untouched : ¬ (x .result .number ≡ 0) → (x .result, roomLeft κs a x) ≡ unwrittenOf (x .result .number) (roomGiven κs a)
   write-untouched some = slip-answers.write-untouched κs a x some ∙ ap (λ (n : ℕ). unwrittenOf n (roomGiven κs a)) (sym (write-number κs a x))
 
-  -- what was written is read back under the same keys
+  -- what was written is read back under the same agreement and keys
   module _ (good : x .result .number ≡ 0) (λs : Lfts 2) (b : Dens λs read-k.ps) (y : Read λs b)
-      (lent : b .0 .now ≡ take (x .result .length) (roomLeft κs a x)) (keyed : b .1 .0 .now ≡ keysGiven κs a) where
+      (agreed : b .0 ≡ a .0) (keyed : keysRead λs b ≡ keysGiven κs a) (lent : slipRead λs b ≡ take (x .result .length) (roomLeft κs a x)) where
     pub c-written-read : y .result ≡ toldSlip (saidSlip (saysGiven κs a) (x .result .calls))
-    c-written-read = y .ensures ∙ ap toldSlip (ap₂ readOf lent keyed ∙ reads-back κs a x good)
+    c-written-read = y .ensures ∙ ap toldSlip (reads-lent κs a x good (b .0) (keysRead λs b) (slipRead λs b) agreed keyed lent)
 
     -- and the lot that it names is the lot, byte for byte
-    pub c-written-lot : take (y .result .«lot_len») (drop (y .result .«lot_at») (b .0 .now)) ≡ saysGiven κs a .lot
+    pub c-written-lot : take (y .result .«lot_len») (drop (y .result .«lot_at») (slipRead λs b)) ≡ saysGiven κs a .lot
     unfolding toldSlip
     c-written-lot =
-        ap (λ (r : Slip). take (r .«lot_len») (drop (r .«lot_at») (b .0 .now))) c-written-read
+        ap (λ (r : Slip). take (r .«lot_len») (drop (r .«lot_at») (slipRead λs b))) c-written-read
         ∙ ap (λ (s : List ℕ). take (length (saysGiven κs a .lot)) (drop 14 s)) lent ∙ lot-back κs a x good
 
 -- a slip whose number is 0 is accepted
-accepted-of : (s keys : List ℕ) → readOf s keys .number ≡ 0 → Accepted s keys
+accepted-of : (A : Agreement) (keys s : List ℕ) → readOf A keys s .number ≡ 0 → Accepted A keys s
 unfolding refusedSlip
-accepted-of s keys e = go (eqb (firstOf (slipFaults s keys)) 0) refl
+accepted-of A keys s e = go (eqb (firstOf (slipFaults A keys s)) 0) refl
   where
-    go : (b : Bool) → eqb (firstOf (slipFaults s keys)) 0 ≡ b → Accepted s keys
-    go true h = eqb-true (firstOf (slipFaults s keys)) 0 h
-    go false h = sym (ap (λ (r : slip.Slip). r .number) (refused-is s keys (eqb-false (firstOf (slipFaults s keys)) 0 h))) ∙ e
+    go : (b : Bool) → eqb (firstOf (slipFaults A keys s)) 0 ≡ b → Accepted A keys s
+    go true h = eqb-true (firstOf (slipFaults A keys s)) 0 h
+    go false h = sym (ap (λ (r : slip.Slip). r .number) (refused-is A keys s (eqb-false (firstOf (slipFaults A keys s)) 0 h))) ∙ e
 
--- an accepted slip, written again from the settings that it names and from what was read, is that slip
-module _ (λs : Lfts 2) (b : Dens λs read-k.ps) (y : Read λs b) (good : y .result .number ≡ 0)
-    (κs : Lfts 3) (a : Dens κs write-k.ps) (x : Written κs a) (again : Again (b .0 .now) (b .1 .0 .now) (contentsIn (y .result)) κs a) where
-  pub c-read-written : (x .result, roomLeft κs a x) ≡ writtenAs (b .0 .now) (y .result .calls) (roomGiven κs a)
+module _ (λs : Lfts 2) (b : Dens λs read-k.ps) (y : Read λs b) (good : y .result .number ≡ 0) where
+  c-accepted : Accepted (b .0) (keysRead λs b) (slipRead λs b)
   unfolding toldSlip
-  c-read-written =
-      let told = y .ensures in
-      writes-again (b .0 .now) (b .1 .0 .now) (accepted-of (b .0 .now) (b .1 .0 .now) (sym (ap (λ (r : Slip). r .number) told) ∙ good)) κs a x
-      (subst (λ (r : Slip). Again (b .0 .now) (b .1 .0 .now) (contentsIn r) κs a) told again)
-      ∙ ap (λ (r : Slip). writtenAs (b .0 .now) (r .calls) (roomGiven κs a)) (sym told)
+  c-accepted = accepted-of (b .0) (keysRead λs b) (slipRead λs b) (sym (ap (λ (r : Slip). r .number) (y .ensures)) ∙ good)
+
+  -- an accepted slip names what was agreed, and its seal has so many bits
+  pub c-read-agrees : Agrees (b .0) (keysRead λs b) (slipRead λs b)
+  c-read-agrees = accepted-agrees (b .0) (keysRead λs b) (slipRead λs b) c-accepted
+
+  -- written again under the same agreement and keys from what was read, it is that slip
+  module _ (κs : Lfts 3) (a : Dens κs write-k.ps) (x : Written κs a) (again : Again (b .0) (keysRead λs b) (slipRead λs b) (contentsIn (y .result)) κs a) where
+    pub c-read-written : (x .result, roomLeft κs a x) ≡ writtenAs (slipRead λs b) (y .result .calls) (roomGiven κs a)
+    unfolding toldSlip
+    c-read-written =
+        let told = y .ensures in
+        writes-again (b .0) (keysRead λs b) (slipRead λs b) c-accepted κs a x
+        (subst (λ (r : Slip). Again (b .0) (keysRead λs b) (slipRead λs b) (contentsIn r) κs a) told again)
+        ∙ ap (λ (r : Slip). writtenAs (slipRead λs b) (r .calls) (roomGiven κs a)) (sym told)

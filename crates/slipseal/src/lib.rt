@@ -261,10 +261,10 @@ fn told_slip(read: slip::Slip) -> Slip
 }
 
 #[no_mangle]
-pub extern "C" fn slipseal_read(slip: &[u8], keys: &[u8]) -> Slip
-    ensures { λ r. ⌜ r ≡ toldSlip (readOf (now (slip .entry)) (now (keys .entry))) ⌝ }
+pub extern "C" fn slipseal_read(agreement: settings::Agreement, keys: &[u8], slip: &[u8]) -> Slip
+    ensures { λ r. ⌜ r ≡ toldSlip (readOf agreement (now (keys .entry)) (now (slip .entry))) ⌝ }
 {
-    told_slip(slip::read(slip, keys))
+    told_slip(slip::read(agreement, keys, slip))
 }
 
 #[no_mangle]

@@ -1,9 +1,9 @@
-// slipprint on words of this program's own arguments, then slipcheck on the file that it was to make. The first three arguments are
-// words for slipprint to be called with alone; after them eight make a row: the file of the typed keys, and slipprint's seven words.
+// slipprint on words of this program's own arguments, then slipcheck on the file that it was to make, under the same agreement. After
+// the arguments that checks.rt takes, eight make a row: the file of the typed keys, and slipprint's seven words.
 ghost use Prim.Native.Nat.{_≤_};
 ghost use Rattle.io.specs.Counts.{Counts};
 
-const FIRST_ROW: usize = 4;
+const FIRST_ROW: usize = 175;
 
 // What a slip's file can have, and one byte more.
 const MOST: usize = 76;
@@ -50,18 +50,21 @@ fn pair(at: usize)
     libc::close(typed);
     print(b"--\n");
     let again = os::open_read(&room[..n]);
-    check_name(again, at + 1);
+    check_made(again, at);
     libc::close(again);
 }
 
-fn check_name(typed: i32, at: usize) {
+// The file and the agreement of a row.
+fn check_made(typed: i32, at: usize)
+    requires { ⌜ at ≤ 4096 ⌝ }
+{
     let mut name = io::buffer();
-    let n = os::arg(at, &mut name);
-    tool::answer(typed, &name[..n]);
+    let n = os::arg(at + 1, &mut name);
+    tool::answer_named(typed, &name[..n], at + 5);
 }
 
 // A line with so many arguments from one on.
-fn print_words(at: usize, count: usize)
+pub(crate) fn print_words(at: usize, count: usize)
     requires { ⌜ (at ≤ 65536) × (count ≤ 8) ⌝ }
 {
     print(b"==");

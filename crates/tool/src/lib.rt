@@ -1,23 +1,28 @@
 // All input and output of the programs slipcheck and slipprint (printing.rt). They tell everything on standard output, since a program
 // here has no exit status. slipcheck reads the keys from standard input and one slip from a file, and says in words whether the slip
-// is to be believed:
+// is to be believed under what was agreed with its supplier:
 //
-//     slipcheck FILE       accepted and what the slip says; or refused, the number and its meaning; or error and what is wrong
-//     slipcheck vectors    the tags that the standard prints, made anew and compared
+//     slipcheck FILE ALGORITHM PADDING M    accepted and what the slip says; or refused, the number and its meaning; or error and
+//                                           what is wrong
+//     slipcheck vectors                     the tags that the standard prints, made anew and compared
+//     slipcheck -h                          how it is used; also --help
 //
-// The argument is looked at first, then the keys, then the file. Its own buffers, with those of the calls it makes on the system, would
-// stay far below 64 KiB even if they were all in use together (slipprint's stand in printing.rt):
+// The arguments are looked at first, in their order, then the keys, then the file. Its own buffers, with those of the calls it makes on
+// the system, would stay far below 64 KiB even if they were all in use together (slipprint's stand in printing.rt):
 //
 //     4096   the file's name
 //     4096   its copy in os::open_read
 //     4096   io::write_all, where the system takes only a part of what is written
 //      880   the vectors: their rows 792, keys 32, text 32, a tag 8 and its digits 16
 //      256   a chunk of the typed keys
+//      195   the algorithm, the padding and M, 65 each
 //       33   the key bytes
 //       76   the slip
 //       20   a number's digits
+//        8   a word alone
 //    -----
-//    13553   bytes in all
+//    13756   bytes in all
+mod arguments;
 mod hex;
 mod new_file;
 mod numbers;
@@ -27,49 +32,93 @@ mod typed_keys;
 mod vectors;
 mod words;
 
+use arguments::Agreed;
 pub use printing::answer_print;
 pub use printing::run_print;
 use words::print;
 
 pub fn run() {
-    if os::arg_count() != 2 {
-        print(b"error: give one argument\n");
-        usage();
+    let count = os::arg_count();
+    if count == 0 {
+        print_misuse();
+        return;
+    }
+    answer(libc::STDIN_FILENO, 1, count - 1);
+}
+
+// What slipcheck says where its words are so many arguments from this one on, and the keys are typed into this open file.
+pub fn answer(typed: i32, at: usize, count: usize) {
+    if arguments::LAST < at {
+        print_misuse();
+        return;
+    }
+    if count == 1 {
+        answer_one(at);
+        return;
+    }
+    if count != 4 {
+        print_misuse();
         return;
     }
     let mut name = io::buffer();
-    let n = os::arg(1, &mut name);
+    let n = os::arg(at, &mut name);
     let wrong = os::errno();
     if wrong != 0 {
         words::print_failure(b"the file cannot be opened", wrong);
         return;
     }
-    answer(libc::STDIN_FILENO, &name[..n]);
+    answer_named(typed, &name[..n], at + 1);
 }
 
-fn usage() {
+fn print_usage() {
+    print(b"slipcheck FILE ALGORITHM PADDING M\n");
+    print(b"    checks the slip in the file; the keys are hex digits on standard input\n");
     print(
-        b"slipcheck FILE       checks the slip in the file; the keys are hex digits on standard input\n",
+        b"    as in: slipcheck slip 5 4 64 (the three numbers as agreed with the supplier and kept\n",
     );
-    print(
-        b"slipcheck vectors    runs the published vectors (a file of that name is given as ./vectors)\n",
-    );
+    print(b"    on file, never as the slip names them)\n");
+    print(b"slipcheck vectors\n");
+    print(b"    runs the published vectors\n");
 }
 
-// What the program says where its argument is this name, and the keys are typed into this open file.
-pub fn answer(typed: i32, name: &[u8]) {
-    if check::same(name, b"vectors") {
+fn print_misuse() {
+    print(b"error: give four arguments\n");
+    print_usage();
+}
+
+// A word alone runs the vectors, or may ask how the program is used.
+fn answer_one(at: usize) {
+    let mut room = [0u8; 8];
+    let n = arguments::word(at, &mut room);
+    let word = first(&room, n);
+    if check::same(word, b"vectors") {
         vectors::run();
         return;
     }
-    check_file(typed, name);
+    if arguments::asks_for_help(word) {
+        print_usage();
+        return;
+    }
+    print_misuse();
 }
 
-fn check_file(typed: i32, name: &[u8]) {
+// What slipcheck says of the file of this name, where what was agreed is the three arguments from this one on.
+pub fn answer_named(typed: i32, name: &[u8], at: usize) {
+    if arguments::LAST + 1 < at {
+        print_misuse();
+        return;
+    }
+    match arguments::agreement(at) {
+        Agreed::Numbers(agreement) => check_file(typed, agreement, name),
+        Agreed::Unread => (),
+    }
+}
+
+fn check_file(typed: i32, agreement: settings::Agreement, name: &[u8]) {
     let mut room = [0u8; 33];
     let keys = typed_keys::read(typed, &mut room);
     match keys {
-        typed_keys::Typed::Bytes(count) => slip_file::check(name, first(&room, count)),
+        typed_keys::Typed::Bytes(count) => slip_file::check(name, agreement, first(&room, count)),
         _ => typed_keys::print_error(keys),
     }
 }

@@ -22,11 +22,13 @@
 //    -----
 //    12983   bytes in all
 ghost use Prim.Native.Nat.{_≤_};
+use crate::arguments;
 use crate::first;
 use crate::new_file;
 use crate::numbers;
 use crate::typed_keys;
 use crate::words;
+use arguments::Agreed;
 use words::print;
 
 pub fn run_print() {
@@ -40,8 +42,7 @@ pub fn run_print() {
 
 // What the program says where its words are so many arguments from this one on, and the keys are typed into this open file.
 pub fn answer_print(typed: i32, at: usize, count: usize) {
-    // So that the numbers of the arguments can be added to.
-    if 65536 < at {
+    if arguments::LAST < at {
         print_misuse();
         return;
     }
@@ -79,28 +80,12 @@ fn print_misuse() {
 // A word alone may ask how the program is used.
 fn answer_one(at: usize) {
     let mut room = [0u8; 7];
-    let n = word(at, &mut room);
-    if asks_for_help(first(&room, n)) {
+    let n = arguments::word(at, &mut room);
+    if arguments::asks_for_help(first(&room, n)) {
         print_usage();
         return;
     }
     print_misuse();
-}
-
-fn asks_for_help(word: &[u8]) -> bool {
-    if check::same(word, b"-h") {
-        return true;
-    }
-    check::same(word, b"--help")
-}
-
-// Puts an argument into the room and gives its length. One that is too long fills the room, so a room has a byte more than is good.
-fn word(at: usize, room: &mut [u8]) -> usize {
-    let n = os::arg(at, room);
-    if os::errno() == libc::ENAMETOOLONG {
-        return room.len();
-    }
-    n
 }
 
 // The words after the file's name.
@@ -108,81 +93,47 @@ fn answer_six(typed: i32, name: &[u8], at: usize)
     requires { ⌜ at ≤ 65537 ⌝ }
 {
     let mut date = [0u8; 11];
-    let date_length = word(at, &mut date);
+    let date_length = arguments::word(at, &mut date);
     let mut lot = [0u8; 33];
-    let lot_length = word(at + 1, &mut lot);
+    let lot_length = arguments::word(at + 1, &mut lot);
     let mut amount = [0u8; 65];
-    let amount_length = word(at + 2, &mut amount);
-    let mut algorithm = [0u8; 65];
-    let algorithm_length = word(at + 3, &mut algorithm);
-    let mut padding = [0u8; 65];
-    let padding_length = word(at + 4, &mut padding);
-    let mut m = [0u8; 65];
-    let m_length = word(at + 5, &mut m);
+    let amount_length = arguments::word(at + 2, &mut amount);
     print_slip(
         typed,
         name,
         first(&date, date_length),
         first(&lot, lot_length),
         first(&amount, amount_length),
-        first(&algorithm, algorithm_length),
-        first(&padding, padding_length),
-        first(&m, m_length),
+        at + 3,
     );
 }
 
-// The words, of which date and numbers are judged for how they are written.
-fn print_slip(
-    typed: i32,
-    name: &[u8],
-    date: &[u8],
-    lot: &[u8],
-    amount: &[u8],
-    algorithm: &[u8],
-    padding: &[u8],
-    m: &[u8],
-) {
+// The words, of which date and numbers are judged for how they are written; what was agreed is the three arguments from this one on.
+fn print_slip(typed: i32, name: &[u8], date: &[u8], lot: &[u8], amount: &[u8], at: usize)
+    requires { ⌜ at ≤ 65540 ⌝ }
+{
     if name.len() == 0 {
         print(b"error: the file's name is empty\n");
-        return;
-    }
-    if check::same(name, b"vectors") {
-        print(b"error: slipcheck has another use for that name: give ./vectors\n");
         return;
     }
     if numbers::no_date(date) {
         print(b"error: the date is not written as 2026-11-04\n");
         return;
     }
-    if is_no_number(b"the amount", amount) {
+    if arguments::is_no_number(b"the amount", amount) {
         return;
     }
-    if is_no_number(b"the algorithm", algorithm) {
-        return;
+    match arguments::agreement(at) {
+        Agreed::Numbers(agreed) => print_typed(
+            typed,
+            name,
+            agreed,
+            date,
+            lot,
+            numbers::number(amount),
+        ),
+        Agreed::Unread => (),
     }
-    if is_no_number(b"the padding", padding) {
-        return;
-    }
-    if is_no_number(b"M", m) {
-        return;
-    }
-    let agreed = settings::Agreement {
-        algorithm: numbers::number(algorithm),
-        padding: numbers::number(padding),
-        m: numbers::number(m),
-    };
-    print_typed(typed, name, agreed, date, lot, numbers::number(amount));
-}
-
-// Whether a word is no number; if so, it is said.
-fn is_no_number(what: &[u8], word: &[u8]) -> bool {
-    if numbers::no_number(word) {
-        print(b"error: ");
-        print(what);
-        print(b" is not written in 1 to 64 digits\n");
-        return true;
-    }
-    false
 }
 
 // What was asked for, with the keys that are typed.

@@ -11,20 +11,20 @@ enum FileRead {
     Unreadable(i32),
 }
 
-pub(crate) fn check(name: &[u8], keys: &[u8]) {
+pub(crate) fn check(name: &[u8], agreement: settings::Agreement, keys: &[u8]) {
     let file = os::open_read(name);
     if file < 0 {
         words::print_failure(b"the file cannot be opened", os::errno());
         return;
     }
-    check_open(file, keys);
+    check_open(file, agreement, keys);
     libc::close(file);
 }
 
-fn check_open(file: i32, keys: &[u8]) {
+fn check_open(file: i32, agreement: settings::Agreement, keys: &[u8]) {
     let mut room = [0u8; 76];
     match read(file, &mut room) {
-        FileRead::Bytes(count) => print_answer(first(&room, count), keys),
+        FileRead::Bytes(count) => print_answer(agreement, keys, first(&room, count)),
         FileRead::Unreadable(reason) => words::print_failure(b"the file cannot be read", reason),
     }
 }
@@ -46,8 +46,8 @@ fn read(file: i32, room: &mut [u8]) -> FileRead {
     FileRead::Bytes(done)
 }
 
-fn print_answer(bytes: &[u8], keys: &[u8]) {
-    let answer = slip::read(bytes, keys);
+fn print_answer(agreement: settings::Agreement, keys: &[u8], bytes: &[u8]) {
+    let answer = slip::read(agreement, keys, bytes);
     if answer.number != 0 {
         words::print_refusal(answer.number);
         return;

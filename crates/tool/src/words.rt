@@ -82,6 +82,7 @@ fn print_meaning_of_slip(number: usize) {
         22 => print(b"a field's length or value is not allowed"),
         23 => print(b"the expiry is not a real date from 2000 to 2099"),
         24 => print(b"there are bytes after the seal"),
+        25 => print(b"the slip names another algorithm, padding or m than agreed"),
         30 => print(b"the seal is wrong"),
         _ => print_no_meaning(),
     }

@@ -10,8 +10,9 @@ use Rattle.slip.proofs.lot.Tie as tie
 
 returns : tie.Need-returns
 returns c =
-    let s = c .before .before .before .before .before .args .slip in
-    c .lot-in .ensures ∙ ap (λ (r : Slip). lotPartIn s (r .contents)) (c .before .before .read .ensures) ∙ sym (lot-there s (c .before .before .before .before .before .args .keys .now))
+    let a = c .before .before .before .before .before .args in
+    let s = a .slip in
+    c .lot-in .ensures ∙ ap (λ (r : Slip). lotPartIn s (r .contents)) (c .before .before .read .ensures) ∙ sym (lot-there (a .agreement) (a .keys .now) s)
 
 pub lot-spec : {M : Type 1} → statement M
 lot-spec = tie.close (tie.spec (λ c κs. search needs) (λ c κs. search needs) returns)

@@ -17,7 +17,7 @@ use mathlib.Core.Logic.{⊎-elim}
 use Rattle.fields.specs.Layout.{placesOf, sealAt}
 use Rattle.fields.specs.declared.Places.{Places}
 use Rattle.fields.proofs.Laid.{LaidOut, laid-out, seal-most}
-use Rattle.slip.specs.Slip.{acceptedSlip, refusedSlip, readUnder}
+use Rattle.slip.specs.Slip.{acceptedSlip, refusedSlip, readOf}
 use Rattle.slip.proofs.Judged.{covered-is, covered-bits, seal-head-there, tag-is, verdict, judged}
 use borrow.Author.Needs.{needs}
 use Rattle.slip.proofs.read_under.Statement.{statement}
@@ -47,14 +47,14 @@ other s (No n) h = refl
 other s (Refused n) h = absurd (⊎-elim (λ e. omega arith) (λ k. ⊎-elim (λ e. omega arith) (λ e. omega arith) k) h)
 
 -- the check's answer gives the slip's
-answered : (c : tie.After-check) → let a = c .before .before .before .before .before .args in verdict (a .slip .now) (c .check .result) ≡ readUnder (a .agreed) (a .slip .now) (a .keys .now)
+answered : (c : tie.After-check) → let a = c .before .before .before .before .before .args in verdict (a .slip .now) (c .check .result) ≡ readOf (a .agreed) (a .keys .now) (a .slip .now)
 answered c =
     let b = c .before .before .before .before .before in
     let s = b .args .slip .now in
     ap (verdict s)
     (c .check .ensures
     ∙ (λ i. checkOf (b .args .agreed) (b .args .keys .now) (covered-is s (ok b) _ (seal-is b) i) (covered-bits s (ok b) _ (seal-is b) i) ((take-rest (b .args .at .seal + 6) s ∙ tag-is s (ok b) _ (seal-is b)) i)))
-    ∙ judged s (b .pre .1) (b .args .agreed) (b .args .keys .now)
+    ∙ judged s (b .pre .1) (b .args .agreed) (b .args .keys .now) (b .pre .2)
 
 add-tag-at : tie.Need-add-tag-at
 add-tag-at c = omega (arith, there (c .before .before))
@@ -74,7 +74,8 @@ part-check-start c = there (c .before .before .before)
 contents-of-requires : tie.Need-contents-of-requires
 contents-of-requires c κs =
     let far = c .before .before .before .before .before .before in
-    far .before .before .pre
+    let pre = far .before .before .pre in
+    (pre .0, pre .1)
 
 returns : tie.Need-returns
 unfolding verdict

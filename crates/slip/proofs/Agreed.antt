@@ -1,0 +1,130 @@
+-- A slip does not choose its own lock (02 §2). At the shelf: a slip that was accepted names the algorithm, the padding and the number
+-- of bits that were agreed, and its seal is a tag of just so many bits (`accepted-agrees`); every agreement that accepts it, under
+-- whatever keys, has these three (`one-agreement`). A slip whose fields are in order gets 25 exactly where it names something else,
+-- whatever its tag and the keys (`unmet-25`, `only-unmet-25`). And so of every answer that the contract of `read` allows: `read-agrees`,
+-- `reads-one-agreement`, `read-25`, `read-only-25`.
+-- Assumes nothing.
+use mathlib.Core.Path.{_≡_, refl, sym, ap, _∙_}
+use mathlib.Core.Bool.{Bool, true, false, not}
+use mathlib.Core.List.{List, [], _∷_}
+use Prim.Native.Nat.{ℕ, _*_}
+use native.Mathlib.Omega.{arith}
+use lib.Dec.{eqb}
+use lib.ListN.{length, getD}
+use contract.Lifetimes.{Lfts}
+use borrow.Fn.Kinds.{Dens}
+use borrow.Author.Tests.{eqb-true, eqb-false}
+use Rattle.bits.specs.Choice.{firstOf}
+use Rattle.bits.specs.Str.{Bits, sameBytes}
+use Rattle.bits.proofs.Faults.{all, with, every-first, first-append}
+use Rattle.bits.proofs.Same.{sameBytes-true, sameBytes-eq}
+use Rattle.cipher.specs.Ciphers.{cipherAt}
+use Rattle.cipher.proofs.Laws.{sm4-width, lawful-at}
+use Rattle.mac.specs.Padding.{methodAt}
+use Rattle.mac.specs.Algorithm.{algorithmAt}
+use Rattle.mac.specs.Tag.{bitsOf, bytesFor, tagBytes}
+use Rattle.mac.proofs.OneBlock.{tag-long}
+use Rattle.mac.proofs.TagBytes.{length-tagBytes}
+use Rattle.keys.specs.Given.{keysOf}
+use Rattle.settings.specs.Faults.{settingsFaults, settingsRefusal}
+use Rattle.settings.specs.Answers.{settingsOf}
+use Rattle.settings.proofs.Sound.{sound-size}
+use Rattle.settings.specs.declared.Agreement.{Agreement}
+use Rattle.tag.specs.OneCall.{tagAt}
+use Rattle.fields.specs.Layout.{sealField, covered, layoutFaults}
+use Rattle.slip.specs.Slip.{namedValues, agreedValues, agreementUnmet, tagNamed, sealDefined, slipFaults, refusedSlip}
+use Rattle.slip.specs.declared.Slip.{Slip}
+use Rattle.slip.proofs.Judged.{sealFaultsUnder, met-first, unmet-first, unmet-refused, believed}
+use Rattle.slip.proofs.Whole.{Accepted, tag-defined, named-agreed}
+use Rattle.slip.proofs.Numbers.{layout-every, Reading, keysRead, slipRead, read-number, read-accepted}
+use Rattle.slip.proofs.read.Kinds as read-k
+
+-- ---- what is said
+
+-- the tag over the covered bytes that an agreement and keys give, in bits
+abbrev pub sealBits : Agreement → List ℕ → List ℕ → Bits
+sealBits A keys s = tagAt (settingsOf A) (keysOf keys) (covered s) (8 * length (covered s))
+
+pub record Agrees (A : Agreement) (keys s : List ℕ) : Type 0 where
+  -- algorithm, padding and m stand in the slip as they were agreed
+  pub named : namedValues (sealField s) ≡ agreedValues A
+  -- the seal is a tag of the agreed number of bits, in as many bytes as hold them
+  pub bits : length (sealBits A keys s) ≡ A .m
+  pub seal : tagNamed s ≡ tagBytes (sealBits A keys s)
+  pub bytes : length (tagNamed s) ≡ bytesFor (A .m)
+
+-- two agreements with one algorithm, one padding and one m
+abbrev pub SameValues : Agreement → Agreement → Type 0
+SameValues A B = (A .algorithm ≡ B .algorithm) × ((A .padding ≡ B .padding) × (A .m ≡ B .m))
+
+-- ---- a slip that is accepted
+
+pub accepted-agrees : (A : Agreement) (keys s : List ℕ) → Accepted A keys s → Agrees A keys s
+unfolding sealDefined tagAt settingsRefusal
+accepted-agrees A keys s h =
+    let size = sound-size A (length keys) (keysOf keys) (believed A keys s h .settings) in
+    let long = tag-long (cipherAt 1) (lawful-at 1) (algorithmAt (A .algorithm)) (methodAt (A .padding)) (keysOf keys) (A .m) (bitsOf (covered s) (8 * length (covered s))) (omega (arith, sm4-width, size)) in
+    let tag = tag-defined A keys s h in
+    record { named = named-agreed A keys s h; bits = long; seal = tag; bytes = ap length tag ∙ length-tagBytes _ ∙ ap bytesFor long }
+
+same-values : (A B : Agreement) → agreedValues A ≡ agreedValues B → SameValues A B
+same-values A B e = (ap (λ (l : List ℕ). getD l 0 0) e, (ap (λ (l : List ℕ). getD l 1 0) e, ap (λ (l : List ℕ). getD l 2 0) e))
+
+pub one-agreement : (A B : Agreement) (keys keys′ s : List ℕ) → Accepted A keys s → Accepted B keys′ s → SameValues A B
+one-agreement A B keys keys′ s h h′ = same-values A B (sym (named-agreed A keys s h) ∙ named-agreed B keys′ s h′)
+
+-- ---- 25, exactly
+
+module _ (A : Agreement) (s : List ℕ) where
+  named-other : ¬ (namedValues (sealField s) ≡ agreedValues A) → agreementUnmet A (sealField s) ≡ true
+  unfolding agreementUnmet
+  named-other other = go (sameBytes (namedValues (sealField s)) (agreedValues A)) refl
+    where
+      go : (b : Bool) → sameBytes (namedValues (sealField s)) (agreedValues A) ≡ b → not b ≡ true
+      go true e = absurd (other (sameBytes-eq (namedValues (sealField s)) (agreedValues A) e))
+      go false e = refl
+
+  named-same : namedValues (sealField s) ≡ agreedValues A → agreementUnmet A (sealField s) ≡ false
+  unfolding agreementUnmet
+  named-same e = ap not (sameBytes-true (namedValues (sealField s)) (agreedValues A) e)
+
+module _ (A : Agreement) (keys s : List ℕ) where
+  pub unmet-25 : firstOf (layoutFaults s) ≡ 0 → ¬ (namedValues (sealField s) ≡ agreedValues A) → firstOf (slipFaults A keys s) ≡ 25
+  unmet-25 clear other = unmet-first A keys s clear (named-other A s other)
+
+  -- no other rule answers 25
+  layout-other : eqb (firstOf (layoutFaults s)) 25 ≡ false
+  layout-other = every-first {P = λ n. eqb n 25 ≡ false} refl (layout-every refl refl refl refl refl s)
+
+  seal-other : eqb (firstOf (sealFaultsUnder A keys s)) 25 ≡ false
+  unfolding settingsFaults
+  seal-other = every-first {P = λ n. eqb n 25 ≡ false} refl (with refl (with refl (with refl (with refl (with refl (with refl (with refl (with refl all))))))))
+
+  pub only-unmet-25 : firstOf (slipFaults A keys s) ≡ 25 → (firstOf (layoutFaults s) ≡ 0) × ¬ (namedValues (sealField s) ≡ agreedValues A)
+  unfolding slipFaults
+  only-unmet-25 e = go (eqb (firstOf (layoutFaults s)) 0) refl
+    where
+      go : (b : Bool) → eqb (firstOf (layoutFaults s)) 0 ≡ b → (firstOf (layoutFaults s) ≡ 0) × ¬ (namedValues (sealField s) ≡ agreedValues A)
+      go true h =
+          let clear = eqb-true (firstOf (layoutFaults s)) 0 h in
+          (clear, λ same. eqb-false (firstOf (sealFaultsUnder A keys s)) 25 seal-other (sym (met-first A keys s clear (named-same A s same)) ∙ e))
+      go false h = absurd (eqb-false (firstOf (layoutFaults s)) 25 layout-other (sym (first-append (layoutFaults s) _ (eqb-false (firstOf (layoutFaults s)) 0 h)) ∙ e))
+
+-- ---- of every answer of `read`
+
+module _ (κs : Lfts 2) (a : Dens κs read-k.ps) (x : Reading κs a) where
+  pub read-agrees : x .result .number ≡ 0 → Agrees (a .0) (keysRead κs a) (slipRead κs a)
+  read-agrees good = accepted-agrees (a .0) (keysRead κs a) (slipRead κs a) (read-accepted κs a x good)
+
+  pub read-25 : firstOf (layoutFaults (slipRead κs a)) ≡ 0 → ¬ (namedValues (sealField (slipRead κs a)) ≡ agreedValues (a .0)) → x .result ≡ refusedSlip 25
+  read-25 clear other = x .ensures ∙ sym (unmet-refused (a .0) (keysRead κs a) (slipRead κs a) clear (named-other (a .0) (slipRead κs a) other))
+
+  pub read-only-25 : x .result .number ≡ 25 → (firstOf (layoutFaults (slipRead κs a)) ≡ 0) × ¬ (namedValues (sealField (slipRead κs a)) ≡ agreedValues (a .0))
+  read-only-25 e = only-unmet-25 (a .0) (keysRead κs a) (slipRead κs a) (sym (read-number κs a x) ∙ e)
+
+module _ (κs : Lfts 2) (a : Dens κs read-k.ps) (x : Reading κs a) (λs : Lfts 2) (b : Dens λs read-k.ps) (y : Reading λs b)
+    (lent : slipRead κs a ≡ slipRead λs b) (good-x : x .result .number ≡ 0) (good-y : y .result .number ≡ 0) where
+  pub reads-one-agreement : SameValues (a .0) (b .0)
+  reads-one-agreement =
+      same-values (a .0) (b .0)
+      (sym (read-agrees κs a x good-x .named) ∙ ap (λ (s : List ℕ). namedValues (sealField s)) lent ∙ read-agrees λs b y good-y .named)
