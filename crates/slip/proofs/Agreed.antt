@@ -1,22 +1,22 @@
 -- A slip does not choose its own lock (02 §2). At the shelf: a slip that was accepted names the algorithm, the padding and the number
--- of bits that were agreed, and its seal is a tag of just so many bits (`accepted-agrees`); every agreement that accepts it, under
--- whatever keys, has these three (`one-agreement`). A slip whose fields are in order gets 25 exactly where it names something else,
--- whatever its tag and the keys (`unmet-25`, `only-unmet-25`). And so of every answer that the contract of `read` allows: `read-agrees`,
--- `reads-one-agreement`, `read-25`, `read-only-25`.
+-- of bits that were agreed, and its seal is the tag of just so many bits (`accepted-agrees`), as one with that tag is accepted
+-- (`sealed-accepted`); every agreement that accepts it, under whatever keys, has these three (`one-agreement`). A slip whose fields
+-- are in order gets 25 exactly where it names something else, whatever its tag and the keys (`unmet-25`, `only-unmet-25`). And so of
+-- every answer that the contract of `read` allows: `read-agrees`, `read-sealed`, `reads-one-agreement`, `read-25`, `read-only-25`.
 -- Assumes nothing.
 use mathlib.Core.Path.{_≡_, refl, sym, ap, _∙_}
 use mathlib.Core.Bool.{Bool, true, false, not}
-use mathlib.Core.List.{List, [], _∷_}
+use mathlib.Core.List.{List}
 use Prim.Native.Nat.{ℕ, _*_}
 use native.Mathlib.Omega.{arith}
 use lib.Dec.{eqb}
 use lib.ListN.{length, getD}
 use contract.Lifetimes.{Lfts}
 use borrow.Fn.Kinds.{Dens}
-use borrow.Author.Tests.{eqb-true, eqb-false}
+use borrow.Author.Tests.{eqb-true, eqb-false, eq-eqb}
 use Rattle.bits.specs.Choice.{firstOf}
 use Rattle.bits.specs.Str.{Bits, sameBytes}
-use Rattle.bits.proofs.Faults.{all, with, every-first, first-append}
+use Rattle.bits.proofs.Faults.{passed, done, clear-first, all, with, every-first, first-append, first-append-clear}
 use Rattle.bits.proofs.Same.{sameBytes-true, sameBytes-eq}
 use Rattle.cipher.specs.Ciphers.{cipherAt}
 use Rattle.cipher.proofs.Laws.{sm4-width, lawful-at}
@@ -30,11 +30,11 @@ use Rattle.settings.specs.Faults.{settingsFaults, settingsRefusal}
 use Rattle.settings.specs.Answers.{settingsOf}
 use Rattle.settings.proofs.Sound.{sound-size}
 use Rattle.settings.specs.declared.Agreement.{Agreement}
+use Rattle.message.specs.Faults.{tagLengthWrong}
 use Rattle.tag.specs.OneCall.{tagAt}
 use Rattle.fields.specs.Layout.{sealField, covered, layoutFaults}
-use Rattle.slip.specs.Slip.{namedValues, agreedValues, agreementUnmet, tagNamed, sealDefined, slipFaults, refusedSlip}
-use Rattle.slip.specs.declared.Slip.{Slip}
-use Rattle.slip.proofs.Judged.{sealFaultsUnder, met-first, unmet-first, unmet-refused, believed}
+use Rattle.slip.specs.Slip.{namedValues, agreedValues, agreementUnmet, tagNamed, sealDefined, sealWrong, agreementFaults, slipFaults, refusedSlip}
+use Rattle.slip.proofs.Judged.{agreement-numbered, sealFaultsUnder, met-first, unmet-first, unmet-refused, believed}
 use Rattle.slip.proofs.Whole.{Accepted, tag-defined, named-agreed}
 use Rattle.slip.proofs.Numbers.{layout-every, Reading, keysRead, slipRead, read-number, read-accepted}
 use Rattle.slip.proofs.read.Kinds as read-k
@@ -59,13 +59,23 @@ SameValues A B = (A .algorithm ≡ B .algorithm) × ((A .padding ≡ B .padding)
 
 -- ---- a slip that is accepted
 
+-- its tag has as many bits as were agreed
+seal-bits : (A : Agreement) (keys s : List ℕ) → firstOf (agreementFaults A keys) ≡ 0 → length (sealBits A keys s) ≡ A .m
+unfolding tagAt settingsRefusal
+seal-bits A keys s sound =
+    let size = sound-size A (length keys) (keysOf keys) sound in
+    tag-long (cipherAt 1) (lawful-at 1) (algorithmAt (A .algorithm)) (methodAt (A .padding)) (keysOf keys) (A .m) (bitsOf (covered s) (8 * length (covered s))) (omega (arith, sm4-width, size))
+
+-- and stands in as many bytes as hold them
+seal-bytes : (A : Agreement) (keys s : List ℕ) → firstOf (agreementFaults A keys) ≡ 0 → length (tagBytes (sealBits A keys s)) ≡ bytesFor (A .m)
+seal-bytes A keys s sound = length-tagBytes _ ∙ ap bytesFor (seal-bits A keys s sound)
+
 pub accepted-agrees : (A : Agreement) (keys s : List ℕ) → Accepted A keys s → Agrees A keys s
-unfolding sealDefined tagAt settingsRefusal
+unfolding sealDefined
 accepted-agrees A keys s h =
-    let size = sound-size A (length keys) (keysOf keys) (believed A keys s h .settings) in
-    let long = tag-long (cipherAt 1) (lawful-at 1) (algorithmAt (A .algorithm)) (methodAt (A .padding)) (keysOf keys) (A .m) (bitsOf (covered s) (8 * length (covered s))) (omega (arith, sm4-width, size)) in
+    let sound = believed A keys s h .settings in
     let tag = tag-defined A keys s h in
-    record { named = named-agreed A keys s h; bits = long; seal = tag; bytes = ap length tag ∙ length-tagBytes _ ∙ ap bytesFor long }
+    record { named = named-agreed A keys s h; bits = seal-bits A keys s sound; seal = tag; bytes = ap length tag ∙ seal-bytes A keys s sound }
 
 same-values : (A B : Agreement) → agreedValues A ≡ agreedValues B → SameValues A B
 same-values A B e = (ap (λ (l : List ℕ). getD l 0 0) e, (ap (λ (l : List ℕ). getD l 1 0) e, ap (λ (l : List ℕ). getD l 2 0) e))
@@ -73,7 +83,7 @@ same-values A B e = (ap (λ (l : List ℕ). getD l 0 0) e, (ap (λ (l : List ℕ
 pub one-agreement : (A B : Agreement) (keys keys′ s : List ℕ) → Accepted A keys s → Accepted B keys′ s → SameValues A B
 one-agreement A B keys keys′ s h h′ = same-values A B (sym (named-agreed A keys s h) ∙ named-agreed B keys′ s h′)
 
--- ---- 25, exactly
+-- ---- a slip that names what was agreed, or something else
 
 module _ (A : Agreement) (s : List ℕ) where
   named-other : ¬ (namedValues (sealField s) ≡ agreedValues A) → agreementUnmet A (sealField s) ≡ true
@@ -87,6 +97,15 @@ module _ (A : Agreement) (s : List ℕ) where
   named-same : namedValues (sealField s) ≡ agreedValues A → agreementUnmet A (sealField s) ≡ false
   unfolding agreementUnmet
   named-same e = ap not (sameBytes-true (namedValues (sealField s)) (agreedValues A) e)
+
+-- a slip in order that names what was agreed, under keys that no rule refuses, is accepted where its seal is the agreed settings' tag
+pub sealed-accepted : (A : Agreement) (keys s : List ℕ) → firstOf (layoutFaults s) ≡ 0 → firstOf (agreementFaults A keys) ≡ 0
+    → namedValues (sealField s) ≡ agreedValues A → tagNamed s ≡ tagBytes (sealBits A keys s) → Accepted A keys s
+unfolding tagLengthWrong sealWrong sealDefined
+sealed-accepted A keys s clear sound names tag =
+    let length-right = ap not (eq-eqb _ _ (ap length tag ∙ seal-bytes A keys s sound)) in
+    met-first A keys s clear (named-same A s names)
+    ∙ first-append-clear (agreementFaults A keys) _ (agreement-numbered A keys) sound ∙ clear-first (passed length-right (passed (ap not (sameBytes-true _ _ tag)) done))
 
 module _ (A : Agreement) (keys s : List ℕ) where
   pub unmet-25 : firstOf (layoutFaults s) ≡ 0 → ¬ (namedValues (sealField s) ≡ agreedValues A) → firstOf (slipFaults A keys s) ≡ 25
@@ -115,6 +134,10 @@ module _ (A : Agreement) (keys s : List ℕ) where
 module _ (κs : Lfts 2) (a : Dens κs read-k.ps) (x : Reading κs a) where
   pub read-agrees : x .result .number ≡ 0 → Agrees (a .0) (keysRead κs a) (slipRead κs a)
   read-agrees good = accepted-agrees (a .0) (keysRead κs a) (slipRead κs a) (read-accepted κs a x good)
+
+  pub read-sealed : firstOf (layoutFaults (slipRead κs a)) ≡ 0 → firstOf (agreementFaults (a .0) (keysRead κs a)) ≡ 0
+      → namedValues (sealField (slipRead κs a)) ≡ agreedValues (a .0) → tagNamed (slipRead κs a) ≡ tagBytes (sealBits (a .0) (keysRead κs a) (slipRead κs a)) → x .result .number ≡ 0
+  read-sealed clear sound names tag = read-number κs a x ∙ sealed-accepted (a .0) (keysRead κs a) (slipRead κs a) clear sound names tag
 
   pub read-25 : firstOf (layoutFaults (slipRead κs a)) ≡ 0 → ¬ (namedValues (sealField (slipRead κs a)) ≡ agreedValues (a .0)) → x .result ≡ refusedSlip 25
   read-25 clear other = x .ensures ∙ sym (unmet-refused (a .0) (keysRead κs a) (slipRead κs a) clear (named-other (a .0) (slipRead κs a) other))

@@ -4,7 +4,7 @@
 -- of accepted slips in Whole.antt, of every such answer (`read-whole`, `read-seal`, `read-equal`, `reads-differ`). What is said of
 -- agreements stands in Agreed.antt.
 -- Assumes nothing.
-use mathlib.Core.Path.{_≡_, refl, sym, ap, _∙_, subst}
+use mathlib.Core.Path.{_≡_, refl, sym, ap, _∙_}
 use mathlib.Core.Bool.{Bool, true, false, _||_, _&&_, true≢false}
 use mathlib.Core.List.{List}
 use Prim.Native.Nat.{ℕ, zero, suc, _+_}
@@ -16,7 +16,7 @@ use denote.Ref.{ptr, now}
 use contract.Lifetimes.{Lfts}
 use borrow.Fn.Kinds.{Dens}
 use borrow.Author.Tests.{ne-eqb}
-use Rattle.bits.specs.Choice.{pick, Fault, firstOf}
+use Rattle.bits.specs.Choice.{pick, firstOf}
 use Rattle.bits.specs.Once.{Allowed}
 use Rattle.bits.specs.Str.{bytesBits}
 use Rattle.bits.proofs.Faults.{Every, all, with, every-append, every-first}

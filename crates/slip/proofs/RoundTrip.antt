@@ -3,17 +3,13 @@
 -- (`read-printed`). So what can be printed and the slips that are accepted correspond one to one (`one-to-one`). Names with printed
 -- speak of the definitions; those of PrintedAnswers.antt, with written, of the code's answers.
 -- Assumes nothing.
-use mathlib.Core.Path.{_≡_, refl, sym, ap, ap₂, _∙_, subst}
-use mathlib.Core.Bool.{false, not}
+use mathlib.Core.Path.{_≡_, refl, sym, ap, ap₂, _∙_}
 use mathlib.Core.List.{List, [], _++_, append-nil}
 use Prim.Native.Nat.{ℕ, zero, suc, _+_, _*_, _≤_, _<_}
 use native.Mathlib.Omega.{arith}
 use lib.ListN.{length, take, drop, getD}
 use lib.Seq.{drop-drop}
-use borrow.Author.Tests.{eq-eqb}
 use Rattle.bits.specs.Choice.{firstOf}
-use Rattle.bits.proofs.Faults.{passed, done, clear-first, first-append-clear}
-use Rattle.bits.proofs.Same.{sameBytes-true}
 use Rattle.mac.specs.Tag.{bytesFor, tagBytes}
 use Rattle.mac.proofs.TagBytes.{tagBytes-fit}
 use Rattle.keys.specs.Given.{keysOf}
@@ -22,7 +18,6 @@ use Rattle.settings.proofs.Sound.{sound-size, sound-bytes}
 use Rattle.settings.specs.declared.Agreement.{Agreement}
 use Rattle.tag.specs.OneCall.{tagAt, callsAt}
 use Rattle.settings.specs.Answers.{settingsOf}
-use Rattle.message.specs.Faults.{tagLengthWrong}
 use Rattle.fields.specs.Format.{sealRow}
 use Rattle.fields.specs.Field.{lengthOf, value, fieldOf}
 use Rattle.fields.specs.Layout.{lotAt, lotField, sealField, covered, layoutFaults}
@@ -34,13 +29,14 @@ use Rattle.writing.specs.Writing.{Says, saysFaults, coveredOf}
 use Rattle.writing.proofs.Sayable.{Sayable, sayable, unrefused, length-covered}
 use Rattle.writing.proofs.ReadBack.{saysOf, seal-back, covered-back, covered-all, says-back, lot-value-back, lot-length-back, lot-at-back, layout-back}
 use Rattle.writing.proofs.WriteBack.{sayable-again, covered-again}
-use Rattle.slip.specs.Slip.{sealValue, namedValues, agreedValues, agreementUnmet, tagNamed, sealDefined, sealCalls, sealWrong, agreementFaults, slipFaults, contentsOf, acceptedSlip, readOf}
+use Rattle.slip.specs.Slip.{sealValue, namedValues, agreedValues, tagNamed, sealDefined, sealCalls, agreementFaults, contentsOf, acceptedSlip, readOf}
 use Rattle.slip.specs.Printed.{sealedBy, slipOf, slipCalls}
 use Rattle.slip.specs.declared.Contents.{Contents}
 use Rattle.slip.specs.declared.Slip.{Slip}
-use Rattle.slip.proofs.Judged.{Believed, believed, agreement-numbered, met-first}
+use Rattle.slip.proofs.Judged.{Believed, believed}
 use Rattle.slip.proofs.Whole.{Accepted, seal-is}
 use Rattle.slip.proofs.Numbers.{accepted-is}
+use Rattle.slip.proofs.Agreed.{sealed-accepted}
 use Rattle.slip.proofs.Printing.{length-seal, length-sealed}
 
 -- ---- what is said
@@ -79,9 +75,9 @@ module _ (A : Agreement) (keys : List ℕ) (x : Says) (ok : Writable A keys x) w
   seal-printed = seal-back x (fieldOf sealRow (sealValue A seal))
 
   -- the seal names what was agreed
-  names-printed : agreementUnmet A (sealField printed) ≡ false
-  unfolding agreementUnmet namedValues
-  names-printed = rw seal-printed (ap not (sameBytes-true (agreedValues A) (agreedValues A) refl))
+  names-printed : namedValues (sealField printed) ≡ agreedValues A
+  unfolding namedValues
+  names-printed = rw seal-printed refl
 
   tag-printed : tagNamed printed ≡ seal
   unfolding tagNamed
@@ -122,18 +118,9 @@ module _ (A : Agreement) (keys : List ℕ) (x : Says) (ok : Writable A keys x) w
       let long = seal-bytes in
       layout-back x said-well (sealValue A seal) (omega (arith, long, size)) (omega (arith, long, size)) (any-byte (sealValue A seal) seal-fits)
 
-  tag-length-right : tagLengthWrong (A .m) (length (tagNamed printed)) ≡ false
-  unfolding tagLengthWrong
-  tag-length-right = ap not (eq-eqb _ _ (ap length tag-printed ∙ seal-bytes))
-
-  seal-right : sealWrong A printed keys ≡ false
-  unfolding sealWrong
-  seal-right = ap not (sameBytes-true _ _ (tag-printed ∙ sym seal-same))
-
   pub accepted-printed : Accepted A keys printed
-  accepted-printed =
-      met-first A keys printed layout-printed names-printed
-      ∙ first-append-clear (agreementFaults A keys) _ (agreement-numbered A keys) (ok .settings) ∙ clear-first (passed tag-length-right (passed seal-right done))
+  unfolding sealDefined
+  accepted-printed = sealed-accepted A keys printed layout-printed (ok .settings) names-printed (tag-printed ∙ sym seal-same)
 
   contents-printed : contentsOf printed ≡ saidSlip x 0 .contents
   unfolding contentsOf slipOf sealedBy

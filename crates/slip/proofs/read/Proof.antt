@@ -1,10 +1,8 @@
 -- `read` meets its contract: the fields' refusal (`layout-refused`); 25 where the seal field, which is the part of the slip that the
 -- code takes, names something else than agreed (`unmet-refused`); or what `read_under` answers.
 -- Assumes nothing.
-use mathlib.Core.Path.{_≡_, refl, sym, ap, _∙_}
-use mathlib.Core.Bool.{Bool}
-use mathlib.Core.List.{List}
-use Prim.Native.Nat.{ℕ, _≤_}
+use mathlib.Core.Path.{_≡_, sym, ap, _∙_}
+use Prim.Native.Nat.{_≤_}
 use lib.ListN.{length}
 use Rattle.fields.specs.Layout.{placesOf, sealAt, sealField, layoutFaults, layoutOf}
 use Rattle.fields.specs.declared.Layout.{Layout}
