@@ -12,8 +12,8 @@
  * bits, and spare bits of the last byte have no influence. A tag is m bits in (m + 7) / 8 bytes, filled from the left, with zeros
  * in the spare bits.
  *
- * Agreements. What was agreed is one struct: the algorithm, the padding and m, the tag's number of bits. Any numbers may stand in
- * it; all but those of this table are refused.
+ * Agreements. What was agreed is one struct: the algorithm, the padding and m, the tag's number of bits. It comes from the caller's
+ * own records and never from what is checked under it. Any numbers may stand in it; all but those of this table are refused.
  *
  *   algorithm     padding   key bytes       m
  *   1             1 to 3    16              1 to 128
@@ -44,6 +44,7 @@
  *   22  a field's length or value is not allowed
  *   23  the expiry is not a real date from 2000 to 2099
  *   24  there are bytes after the seal
+ *   25  the slip names another algorithm, padding or m than agreed
  *   30  the seal is wrong
  *
  * When a slip is written, 22 and 23 speak of the lot, the amount and the date handed in, and 10 of the room for the whole slip.
@@ -149,19 +150,25 @@ slipseal_step slipseal_piece(slipseal_session session, const uint8_t *bytes, siz
  * the record is closed and zero throughout. */
 slipseal_step slipseal_finish(slipseal_session session, uint8_t *tag, size_t tag_len);
 
-/* Reads a lot slip under keys. Its seal names the algorithm, padding and m, and covers all bytes before field 7F, so not these
- * three. Refusals, in this order: at each of the fields 01, 02, 03 and 7F, 20 for under 3 bytes left, 21 for another tag, 22 for a
- * length that is not allowed, 20 for a value cut short, 22 for a wrong value, 23 for no real date of 2000 to 2099; then 24 for bytes
- * after the seal; then 1 to 6; 10 where the seal's tag is not (m + 7) / 8 bytes long; 30 for a wrong seal. */
-slipseal_slip slipseal_read(const uint8_t *slip, size_t slip_len, const uint8_t *keys, size_t keys_len);
+/* Reads a lot slip under keys and what was agreed with its supplier. The agreement is handed in and never taken from the slip, and
+ * the seal is checked under it. Do not copy the three values that a slip names into the agreement: whoever makes the slip would
+ * choose how it is checked, and a slip that names m = 1 passes with one of two tags.
+ * Refusals, in this order: at each of the fields 01, 02, 03 and 7F, 20 for under 3 bytes left, 21 for another tag, 22 for a length
+ * that is not allowed, 20 for a value cut short, 22 for a wrong value, 23 for no real date of 2000 to 2099; then 24 for bytes after
+ * the seal; 25 where the seal names another algorithm, padding or m than agreed, however well its tag fits; 1 to 6 for the
+ * agreement and the keys; 10 where the seal's tag is not (m + 7) / 8 bytes long; 30 for a wrong seal.
+ * An accepted slip names exactly the agreement. Its tag covers all bytes before field 7F, and under one agreement and keys two
+ * accepted slips with the same bytes before field 7F are one slip. */
+slipseal_slip slipseal_read(slipseal_agreement agreement, const uint8_t *keys, size_t keys_len, const uint8_t *slip,
+                            size_t slip_len);
 
 /* Writes a lot slip: the fields 01, 02, 03 and 7F one after the other, 27 + lot_len + (m + 7) / 8 bytes in all. Room of 75 bytes is
  * enough for any slip; the lot must not lie in it. Refusals, in this order: 22 where the lot is not 1 to 32 bytes, each 21 to 7E, or
  * the amount is not 1 to 1000000 microlitres; 23 where year, month and day are no real date of 2000 to 2099; 1 to 6; 10 where
  * room_len is short of the whole slip. Otherwise the slip is written into the first bytes at room, the others stay, and the answer
  * has number 0, the slip's length and the calls.
- * slipseal_read accepts the slip under the same keys and gives date, lot, amount and calls back. An accepted slip, written again
- * under its keys from what was read and the agreement that its seal names, comes out the same byte for byte. */
+ * slipseal_read accepts the slip under the same agreement and keys and gives date, lot, amount and calls back. An accepted slip,
+ * written again under the same agreement and keys from what was read, comes out the same byte for byte. */
 slipseal_written slipseal_write(slipseal_agreement agreement, const uint8_t *keys, size_t keys_len, size_t year, size_t month,
                                 size_t day, const uint8_t *lot, size_t lot_len, size_t amount, uint8_t *room, size_t room_len);
 

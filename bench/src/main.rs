@@ -37,9 +37,9 @@ fn agree_on_make(what: &str, agreement: Agreement, key: &[u8], message: &[u8], p
     tagged
 }
 
-fn agree_on_slip(what: &str, slip: &[u8], key: &[u8], number: u64) {
-    let read = work::library_slip(slip, key);
-    agree(what, read, work::baseline_slip(slip, key));
+fn agree_on_slip(what: &str, key: &[u8], slip: &[u8], number: u64) {
+    let read = work::library_slip(key, slip);
+    agree(what, read, work::baseline_slip(key, slip));
     agree(what, read[0], number);
 }
 
@@ -66,9 +66,9 @@ fn main() {
     let cmac = agree_on_make("make, algorithm 5", five, key, message, &peers);
     agree_on_make("make on 16 bytes, algorithm 1", one, key, short, &[]);
     agree_on_make("make on 16 bytes, algorithm 5", five, key, short, &peers);
-    agree_on_slip("slip", slip, key, 0);
-    agree_on_slip("slip with a wrong seal", &wrong, key, 30);
-    agree_on_slip("slip cut short", cut, key, 20);
+    agree_on_slip("slip", key, slip, 0);
+    agree_on_slip("slip with a wrong seal", key, &wrong, 30);
+    agree_on_slip("slip cut short", key, cut, 20);
     let [written, expected] = work::written(key);
     agree("slip written", written, expected);
     agree("slip written as it is read", &written.0[..slip.len()], slip);
@@ -87,9 +87,9 @@ fn main() {
             message,
             &openssl_only,
         ),
-        work::slip_line("slips accepted a second", slip, key),
-        work::slip_line("slips refused a second, one bit of the seal wrong", &wrong, key),
-        work::slip_line("slips refused a second, the last byte cut off", cut, key),
+        work::slip_line("slips accepted a second", key, slip),
+        work::slip_line("slips refused a second, one bit of the seal wrong", key, &wrong),
+        work::slip_line("slips refused a second, the last byte cut off", key, cut),
         work::write_line("slips written a second", key),
         work::make_line("tags of 16 bytes a second, algorithm 1", work::SHORT_CALLS, one, key, short, &[]),
         work::make_line(

@@ -59,19 +59,19 @@ pub fn baseline_session(key: &[u8], message: &[u8]) -> Tagged {
     (tag, [answer.number, answer.yes, answer.calls])
 }
 
-pub fn library_slip(slip: &[u8], key: &[u8]) -> [u64; 8] {
-    let s = raw::read(slip, key);
-    [s.number, s.year, s.month, s.day, s.amount, s.calls, s.lot_at, s.lot_len]
-}
-
-pub fn baseline_slip(slip: &[u8], key: &[u8]) -> [u64; 8] {
-    let s = slip::read(slip, key);
-    [s.number, s.year, s.month, s.day, s.amount, s.calls, s.lot_at, s.lot_len]
-}
-
 /// The slip of the example: what it says, and what is agreed on it.
 const SAYS: Contents<'_> = Contents { year: 2026, month: 11, day: 4, lot: b"A7", amount: 500 };
 const SEALED: Agreement = Agreement { algorithm: 5, padding: 4, m: 64 };
+
+pub fn library_slip(key: &[u8], slip: &[u8]) -> [u64; 8] {
+    let s = raw::read(SEALED, key, slip);
+    [s.number, s.year, s.month, s.day, s.amount, s.calls, s.lot_at, s.lot_len]
+}
+
+pub fn baseline_slip(key: &[u8], slip: &[u8]) -> [u64; 8] {
+    let s = slip::read(of_baseline(SEALED), key, slip);
+    [s.number, s.year, s.month, s.day, s.amount, s.calls, s.lot_at, s.lot_len]
+}
 
 /// The room at the end; number, length and calls.
 pub type Written = ([u8; 75], [u64; 3]);
@@ -143,9 +143,10 @@ pub fn session_line<'a>(what: &'static str, key: &'a [u8], message: &'a [u8]) ->
     line(what, 1, library, baseline)
 }
 
-pub fn slip_line<'a>(what: &'static str, slip: &'a [u8], key: &'a [u8]) -> Line<'a> {
-    let library = repeated(SHORT_CALLS, move || raw::read(black_box(slip), black_box(key)));
-    let baseline = repeated(SHORT_CALLS, move || slip::read(black_box(slip), black_box(key)));
+pub fn slip_line<'a>(what: &'static str, key: &'a [u8], slip: &'a [u8]) -> Line<'a> {
+    let library = repeated(SHORT_CALLS, move || raw::read(SEALED, black_box(key), black_box(slip)));
+    let agreement = of_baseline(SEALED);
+    let baseline = repeated(SHORT_CALLS, move || slip::read(agreement, black_box(key), black_box(slip)));
     line(what, SHORT_CALLS, library, baseline)
 }
 

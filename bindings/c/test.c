@@ -17,6 +17,7 @@ static const uint8_t example[37] = {
     0x02, 0x00, 0x02, 'A', '7',
     0x03, 0x00, 0x04, 0x00, 0x00, 0x01, 0xF4,
     0x7F, 0x00, 0x0B, 5, 4, 64, 0xA4, 0x7A, 0x92, 0x99, 0xC7, 0xB8, 0x45, 0x6C};
+static const slipseal_agreement example_agreed = {5, 4, 64};
 static const slipseal_slip example_read = {0, 2026, 11, 4, 500, 3, 14, 2};
 
 static int tests, failures;
@@ -204,12 +205,141 @@ static void handed_back(void)
     finish_hands_back(record_of(agreed(1, 3, 64), 9, 8), 8, 12);
 }
 
+/* Whether a slip was refused with this number, and has zeros beside it. */
+static int refused_with(slipseal_slip read, uint64_t number)
+{
+    slipseal_slip zeros;
+    memset(&zeros, 0, sizeof zeros);
+    zeros.number = number;
+    return memcmp(&read, &zeros, sizeof read) == 0;
+}
+
 static void slip(void)
 {
-    slipseal_slip none = slipseal_read(message, 32, key, 16), zeros;
-    memset(&zeros, 0, sizeof zeros);
-    zeros.number = 21;
-    expect(memcmp(&none, &zeros, sizeof none) == 0, "a refused slip has its number and zeros");
+    expect(refused_with(slipseal_read(example_agreed, key, 16, message, 32), 21), "a refused slip has its number and zeros");
+}
+
+/* The example's fields under three seals (R6): what was agreed, the bytes of the keys, the calls, and the seal. */
+typedef struct sealed {
+    slipseal_agreement agreement;
+    size_t keys_len;
+    uint64_t calls;
+    size_t seal_len;
+    uint8_t seal[14];
+} sealed;
+
+static const sealed seals[3] = {
+    {{5, 4, 64}, 16, 3, 14, {0x7F, 0x00, 0x0B, 5, 4, 64, 0xA4, 0x7A, 0x92, 0x99, 0xC7, 0xB8, 0x45, 0x6C}},
+    {{2, 2, 64}, 32, 3, 14, {0x7F, 0x00, 0x0B, 2, 2, 64, 0x25, 0xBE, 0x21, 0xF5, 0xFD, 0xEE, 0x57, 0xF4}},
+    {{1, 1, 12}, 16, 2, 8, {0x7F, 0x00, 0x05, 1, 1, 12, 0xA3, 0x30}}};
+
+/* K' of annex A; K is the key above. */
+static const uint8_t second[16] = {0x41, 0x49, 0xD2, 0xAD, 0xED, 0x94, 0x56, 0x68, 0x1E, 0xC8, 0xB5, 0x11, 0xD9, 0xE7, 0xEE, 0x04};
+
+static slipseal_slip read_sealed(slipseal_agreement agreement, size_t keys_len, const uint8_t *seal, size_t seal_len)
+{
+    uint8_t keys[32], slip[75];
+    memcpy(keys, key, 16);
+    memcpy(keys + 16, second, 16);
+    memcpy(slip, example, 23);
+    memcpy(slip + 23, seal, seal_len);
+    return slipseal_read(agreement, keys, keys_len, slip, 23 + seal_len);
+}
+
+/* Any other agreement gets 25, also where the tag is wrong or the keys are a byte short. */
+static void other_agreement(sealed s, slipseal_agreement other)
+{
+    expect(refused_with(read_sealed(other, s.keys_len, s.seal, s.seal_len), 25), "another agreement");
+    expect(refused_with(read_sealed(other, 15, s.seal, s.seal_len), 25), "another agreement, keys of 15 bytes");
+    s.seal[s.seal_len - 1] ^= 1;
+    expect(refused_with(read_sealed(other, s.keys_len, s.seal, s.seal_len), 25), "another agreement, a wrong tag");
+}
+
+/* The three numbers are compared whole: another one is off by one, or equal in its low 8, 16 or 32 bits, or far beyond. */
+static void agreements_of_slips(void)
+{
+    const uint64_t off[] = {1, (uint64_t)-1, (uint64_t)1 << 8, (uint64_t)1 << 16, (uint64_t)1 << 32, (uint64_t)1 << 63};
+    size_t i, j;
+    for (i = 0; i < 3; i++) {
+        const sealed s = seals[i];
+        const slipseal_agreement a = s.agreement;
+        slipseal_slip expected = example_read, read = read_sealed(a, s.keys_len, s.seal, s.seal_len);
+        expected.calls = s.calls;
+        expect(memcmp(&read, &expected, sizeof read) == 0, "a slip under its agreement");
+        for (j = 0; j < sizeof off / sizeof off[0]; j++) {
+            other_agreement(s, agreed(a.algorithm + off[j], a.padding, a.m));
+            other_agreement(s, agreed(a.algorithm, a.padding + off[j], a.m));
+            other_agreement(s, agreed(a.algorithm, a.padding, a.m + off[j]));
+        }
+        other_agreement(s, seals[(i + 1) % 3].agreement);
+    }
+}
+
+/* A seal of one bit is right for one of two tags, and refused with 25 for both where 64 bits were agreed. */
+static void one_bit(void)
+{
+    uint8_t seal[7] = {0x7F, 0x00, 0x04, 5, 4, 1, 0x00};
+    expect(refused_with(read_sealed(example_agreed, 16, seal, 7), 25), "one bit, 0");
+    expect(refused_with(read_sealed(agreed(5, 4, 1), 16, seal, 7), 30), "one bit, 0, as agreed");
+    seal[6] = 0x80;
+    expect(refused_with(read_sealed(example_agreed, 16, seal, 7), 25), "one bit, 1");
+    expect(read_sealed(agreed(5, 4, 1), 16, seal, 7).number == 0, "one bit, 1, as agreed");
+}
+
+/* A slip of the example's fields and tag: the refusal that it gets, what was agreed, the bytes of the keys, what the seal names,
+ * how many bytes its tag has and how many follow it; those past the example's are zero. */
+typedef struct reading {
+    uint64_t number;
+    slipseal_agreement agreement;
+    size_t keys_len;
+    uint8_t named[3];
+    size_t tag_len, after;
+} reading;
+
+/* The keys are one key twice, as in written(). */
+static slipseal_slip read_of(reading r)
+{
+    uint8_t keys[32], slip[75] = {0};
+    memcpy(keys, key, 16);
+    memcpy(keys + 16, key, 16);
+    memcpy(slip, example, 37);
+    slip[25] = (uint8_t)(3 + r.tag_len);
+    memcpy(slip + 26, r.named, 3);
+    return slipseal_read(r.agreement, keys, r.keys_len, slip, 29 + r.tag_len + r.after);
+}
+
+/* Each with every later fault that can be had beside it. */
+static void order_of_reads(void)
+{
+    const reading refused[] = {
+        {24, {9, 9, 999}, 3, {5, 4, 64}, 8, 1},
+        {25, {9, 9, 999}, 3, {5, 4, 64}, 9, 0},
+        {25, {9, 4, 64}, 3, {5, 4, 64}, 9, 0},
+        {25, {5, 4, 64}, 3, {9, 4, 64}, 9, 0},
+        {1, {9, 9, 255}, 3, {9, 9, 255}, 9, 0},
+        {25, {5, 9, 64}, 3, {5, 4, 64}, 9, 0},
+        {25, {5, 4, 64}, 3, {5, 9, 64}, 9, 0},
+        {2, {5, 9, 255}, 3, {5, 9, 255}, 9, 0},
+        {25, {5, 4, 255}, 3, {5, 4, 64}, 9, 0},
+        {25, {5, 4, 64}, 3, {5, 4, 255}, 9, 0},
+        {3, {5, 4, 255}, 3, {5, 4, 255}, 9, 0},
+        {25, {5, 4, 64}, 3, {5, 4, 63}, 9, 0},
+        {4, {5, 4, 64}, 3, {5, 4, 64}, 9, 0},
+        {25, {2, 2, 64}, 32, {2, 1, 64}, 9, 0},
+        {5, {2, 2, 64}, 32, {2, 2, 64}, 9, 0},
+        {25, {5, 4, 72}, 16, {5, 4, 64}, 9, 0},
+        {10, {5, 4, 64}, 16, {5, 4, 64}, 9, 0},
+        {25, {5, 4, 64}, 16, {8, 4, 64}, 8, 0},
+        {30, {8, 4, 64}, 16, {8, 4, 64}, 8, 0}};
+    uint8_t unreal[37];
+    size_t i;
+    for (i = 0; i < sizeof refused / sizeof refused[0]; i++) {
+        expect(refused_with(read_of(refused[i]), refused[i].number), "the first fault of a slip");
+    }
+    expect(refused_with(slipseal_read(agreed(9, 9, 999), key, 3, example, 36), 20), "cut short, under another agreement");
+    memcpy(unreal, example, 37);
+    unreal[3] = '1';
+    expect(refused_with(slipseal_read(agreed(9, 9, 999), key, 3, unreal, 37), 23), "no real date, under another agreement");
 }
 
 /* A call that writes a slip: the refusal that it gets or 0, then what goes in, and the bytes of room. */
@@ -251,13 +381,13 @@ static void written_and_read(void)
     slipseal_slip read;
     expect(told(written(w), 0, 37, 3), "write accepted");
     expect(slip_alone(example, 37), "the example's bytes and no more");
-    read = slipseal_read(around + 8, 37, key, 16);
+    read = slipseal_read(w.agreement, key, 16, around + 8, 37);
     expect(memcmp(&read, &example_read, sizeof read) == 0, "a written slip read");
 
-    read = slipseal_read(example, 37, key, 16);
+    read = slipseal_read(example_agreed, key, 16, example, 37);
     memset(around, 0xAA, sizeof around);
-    expect(told(slipseal_write(agreed(example[26], example[27], example[28]), key, 16, read.year, read.month, read.day,
-                               example + read.lot_at, read.lot_len, read.amount, around + 8, 80),
+    expect(told(slipseal_write(example_agreed, key, 16, read.year, read.month, read.day, example + read.lot_at, read.lot_len,
+                               read.amount, around + 8, 80),
                 0, 37, read.calls),
            "write of what was read");
     expect(slip_alone(example, 37), "the slip that was read");
@@ -326,7 +456,7 @@ static void rooms(void)
     for (i = 0; i < sizeof fits / sizeof fits[0]; i++) {
         const writing w = fits[i];
         const slipseal_written done = written(w);
-        const slipseal_slip read = slipseal_read(around + 8, w.room_len, key, 16);
+        const slipseal_slip read = slipseal_read(w.agreement, key, 16, around + 8, w.room_len);
         expect(told(done, 0, w.room_len, read.calls) && read.number == 0, "a room that just fits");
         expect(filled(around, 8, 0xAA) && filled(around + 8 + w.room_len, 88 - w.room_len, 0xAA), "bytes around the slip stay");
         expect(read.year == w.year && read.month == w.month && read.day == w.day && read.amount == w.amount, "date and amount");
@@ -339,7 +469,9 @@ static void rooms(void)
 static void no_bytes(void)
 {
     uint8_t *const nowhere = (uint8_t *)1;
-    const slipseal_agreement a = agreed(5, 4, 64);
+    const slipseal_agreement a = example_agreed;
+    expect(refused_with(slipseal_read(a, nowhere, 0, example, 37), 4), "read with no keys");
+    expect(refused_with(slipseal_read(a, key, 16, nowhere, 0), 20), "read of no slip");
     expect(told(slipseal_write(a, nowhere, 0, 2026, 11, 4, message, 2, 500, around, 96), 4, 0, 0), "no keys");
     expect(told(slipseal_write(a, key, 16, 2026, 11, 4, nowhere, 0, 500, around, 96), 22, 0, 0), "no lot");
     expect(told(slipseal_write(a, key, 16, 2026, 11, 4, message, 2, 500, nowhere, 0), 10, 0, 0), "no room");
@@ -355,6 +487,9 @@ int main(void)
     forged();
     handed_back();
     slip();
+    agreements_of_slips();
+    one_bit();
+    order_of_reads();
     written_and_read();
     refused_writes();
     rooms();

@@ -6,7 +6,8 @@ into results. It loads the shared library that SLIPSEAL_LIB names, else the one 
 A message is bytes and a count of bits, the highest bit of a byte first; without a count all bits are meant. The bytes are exactly
 as many as hold the bits, and spare bits of the last byte have no influence.
 
-What was agreed on how a tag is made is an Agreement: algorithm, padding and m, the tag's number of bits.
+What was agreed on how a tag is made is an Agreement: algorithm, padding and m, the tag's number of bits. It comes from the caller's
+own records and never from what is checked under it.
 
     algorithm     padding   key bytes       m
     1             1 to 3    16              1 to 128
@@ -47,6 +48,7 @@ WORDS = {
     22: "a field's length or value is not allowed",
     23: "the expiry is not a real date from 2000 to 2099",
     24: "there are bytes after the seal",
+    25: "the slip names another algorithm, padding or m than agreed",
     30: "the seal is wrong",
 }
 
@@ -64,7 +66,8 @@ class Refused(Exception):
 
 
 class Agreement(NamedTuple):
-    """What was agreed. Any numbers may stand here; the calls refuse those that are not allowed, with 1, 2 and 3."""
+    """What was agreed. Any numbers may stand here; the calls refuse those that are not allowed, with 1, 2 and 3, or read_slip with
+    25 where the slip names others."""
 
     algorithm: int
     padding: int
@@ -190,24 +193,41 @@ class Session:
         return _made(room, m, step.answer)
 
 
-def read_slip(slip: Bytes, keys: Bytes) -> Slip:
-    """Reads a lot slip under keys; its seal names the algorithm, padding and m. Refused with 20 to 24 for the slip's form, field by
-    field; then 1 to 6, 10, and 30 where the seal is wrong.
+def read_slip(agreement: Agreement, keys: Bytes, slip: Bytes) -> Slip:
+    """Reads a lot slip under keys and what was agreed with its supplier. The agreement is handed in and never taken from the slip,
+    and the seal is checked under it. Do not copy the three values that a slip names into the agreement: whoever makes the slip
+    would choose how it is checked, and a slip that names m = 1 passes with one of two tags.
+
+    Refused with 20 to 24 for the slip's form, field by field; 25 where its seal names another algorithm, padding or m than agreed,
+    however well the tag fits; then 1 to 6, 10, and 30 where the seal is wrong.
+
+    An accepted slip names exactly the agreement. Its tag covers all bytes before field 7F, and under one agreement and keys two
+    accepted slips with the same bytes before field 7F are one slip.
 
     >>> key = bytes.fromhex("0123456789ABCDEFFEDCBA9876543210")
-    >>> slip = bytes.fromhex(
-    ...     "01000832303236313130340200024137030004000001F4" "7F000B050440A47A9299C7B8456C"
-    ... )
-    >>> read_slip(slip, key)
+    >>> agreement = Agreement(algorithm=5, padding=4, m=64)  # from what is on file for the supplier
+    >>> fields = bytes.fromhex("01000832303236313130340200024137030004000001F4")
+    >>> slip = fields + bytes.fromhex("7F000B050440A47A9299C7B8456C")
+    >>> read_slip(agreement, key, slip)
     Slip(year=2026, month=11, day=4, amount=500, lot=b'A7', lot_at=14, calls=3)
-    >>> read_slip(slip, key).expiry
+    >>> read_slip(agreement, key, slip).expiry
     datetime.date(2026, 11, 4)
-    >>> read_slip(slip, bytes(16))
+    >>> read_slip(agreement, bytes(16), slip)
     Traceback (most recent call last):
     slipseal.Refused: refused 30: the seal is wrong
+
+    Sealed with a single bit, and one of the two would fit:
+
+    >>> for tag in "00", "80":
+    ...     try:
+    ...         read_slip(agreement, key, fields + bytes.fromhex("7F0004050401" + tag))
+    ...     except Refused as refused:
+    ...         print(refused)
+    refused 25: the slip names another algorithm, padding or m than agreed
+    refused 25: the slip names another algorithm, padding or m than agreed
     """
     slip = _bytes(slip)
-    read = _library.slipseal_read(*_slice(slip), *_slice(keys))
+    read = _library.slipseal_read(_agreed(agreement), *_slice(keys), *_slice(slip))
     _accept(read.number)
     lot = slip[read.lot_at : read.lot_at + read.lot_len]
     return Slip(read.year, read.month, read.day, read.amount, lot, read.lot_at, read.calls)
@@ -218,17 +238,17 @@ def write_slip(agreement: Agreement, keys: Bytes, expiry: Date, lot: Bytes, amou
     1 to 32 bytes, each 21 to 7E; the amount 1 to 1,000,000 microlitres. Refused with the first that applies of 22 (lot or amount),
     23 (expiry), 1 to 6.
 
-    read_slip accepts the slip under the same keys, gives expiry, lot and amount back and tells the cipher calls. An accepted slip,
-    written again under its keys and the agreement that its seal names, comes out the same byte for byte.
+    read_slip accepts the slip under the same agreement and keys, gives expiry, lot and amount back and tells the cipher calls. An
+    accepted slip, written again under the same agreement and keys, comes out the same byte for byte.
 
-    >>> key = bytes.fromhex("0123456789ABCDEFFEDCBA9876543210")
-    >>> slip = write_slip(Agreement(5, 4, 64), key, datetime.date(2026, 11, 4), b"A7", 500)
+    >>> key, agreement = bytes.fromhex("0123456789ABCDEFFEDCBA9876543210"), Agreement(5, 4, 64)
+    >>> slip = write_slip(agreement, key, datetime.date(2026, 11, 4), b"A7", 500)
     >>> slip.hex().upper()
     '01000832303236313130340200024137030004000001F47F000B050440A47A9299C7B8456C'
-    >>> read = read_slip(slip, key)
-    >>> write_slip(Agreement(5, 4, 64), key, read.expiry, read.lot, read.amount) == slip
+    >>> read = read_slip(agreement, key, slip)
+    >>> write_slip(agreement, key, read.expiry, read.lot, read.amount) == slip
     True
-    >>> write_slip(Agreement(5, 4, 64), key, (2023, 2, 29), b"A7", 500)
+    >>> write_slip(agreement, key, (2023, 2, 29), b"A7", 500)
     Traceback (most recent call last):
     slipseal.Refused: refused 23: the expiry is not a real date from 2000 to 2099
     """
@@ -344,7 +364,7 @@ def _loaded() -> ctypes.CDLL:
         ("start", [_Agreement] + lent + [number], _Step),
         ("piece", [_Record] + lent + [number], _Step),
         ("finish", [_Record] + room, _Step),
-        ("read", lent + lent, _Slip),
+        ("read", [_Agreement] + lent + lent, _Slip),
         ("write", [_Agreement] + lent + [number] * 3 + lent + [number] + room, _Written),
     ):
         function = getattr(library, "slipseal_" + name)

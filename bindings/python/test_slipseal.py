@@ -1,6 +1,6 @@
-"""Tests of slipseal.py: annex A in one call and in pieces, the runs R4 to R7 of the requirements, slips written and read, every
-refusal with its words, records that no call handed out, and what Python alone can get wrong (numbers too large, other kinds of
-bytes, what is no date, a "no" taken for true).
+"""Tests of slipseal.py: annex A in one call and in pieces, the runs R4 to R7 of the requirements, slips written and read, slips
+that name something else than was agreed, every refusal with its words, records that no call handed out, and what Python alone can
+get wrong (numbers too large, other kinds of bytes, what is no date, a "no" taken for true).
 
     python3 -m unittest          in this folder
 """
@@ -270,23 +270,91 @@ class Slips(Case):
         (Agreement(1, 1, 12), "7F000501010CA330", KEY, 2),
     )
 
+    def slip_refused(self, number, agreement, keys, slip):
+        """The struct that comes with a refusal has zeros beside its number."""
+        self.refused(number, read_slip, agreement, keys, slip)
+        read = slipseal._library.slipseal_read(slipseal._agreed(agreement), keys, len(keys), slip, len(slip))
+        self.assertEqual(bytes(read), number.to_bytes(8, "little") + bytes(56))
+
     def test_r6_accepted(self):
-        for _, seal, keys, calls in self.R6:
-            slip = read_slip(COVERED + bytes.fromhex(seal), keys)
+        for agreement, seal, keys, calls in self.R6:
+            slip = read_slip(agreement, keys, COVERED + bytes.fromhex(seal))
             self.assertEqual(slip, (2026, 11, 4, 500, b"A7", 14, calls))
             self.assertEqual(slip.expiry, DAY)
 
     def test_r6_refused(self):
-        self.refused(4, read_slip, SLIP, KEY[:15])
-        self.refused(30, read_slip, SLIP[:-1] + b"\x6D", KEY)
-        self.refused(24, read_slip, SLIP + b"\0", KEY)
-        self.refused(20, read_slip, SLIP[:-1], KEY)
+        self.slip_refused(4, AGREED, KEY[:15], SLIP)
+        self.slip_refused(30, AGREED, KEY, SLIP[:-1] + b"\x6D")
+        self.slip_refused(24, AGREED, KEY, SLIP + b"\0")
+        self.slip_refused(20, AGREED, KEY, SLIP[:-1])
         for date, number in ((b"20230229", 23), (b"04112026", 23), (b"20260411", 30)):
-            self.refused(number, read_slip, SLIP[:3] + date + SLIP[11:], KEY)
-        self.refused(30, read_slip, COVERED + bytes.fromhex("7F000501010CA331"), KEY)
+            self.slip_refused(number, AGREED, KEY, SLIP[:3] + date + SLIP[11:])
+        self.slip_refused(30, Agreement(1, 1, 12), KEY, COVERED + bytes.fromhex("7F000501010CA331"))
         for digits, number in (("", 20), ("55", 20), ("010009", 22), ("01000832", 20), ("020008", 21)):
-            self.refused(number, read_slip, bytes.fromhex(digits), KEY)
-        self.refused(20, read_slip, COVERED, KEY)
+            self.slip_refused(number, AGREED, KEY, bytes.fromhex(digits))
+        self.slip_refused(20, AGREED, KEY, COVERED)
+
+    def test_another_agreement(self):
+        """The three numbers are compared whole: the other one is off by one, or equal in its low 8, 16, 32 or 63 bits."""
+        for agreement, seal, keys, _ in self.R6:
+            slip = COVERED + bytes.fromhex(seal)
+            wrong = slip[:-1] + bytes([slip[-1] ^ 1])
+            self.slip_refused(30, agreement, keys, wrong)
+            for name, number in agreement._asdict().items():
+                for off in (-1, 1, 2**8, 2**16, 2**32, 2**63):
+                    other = agreement._replace(**{name: number + off})
+                    with self.subTest(other=other):
+                        self.slip_refused(25, other, keys, slip)
+                        self.slip_refused(25, other, keys, wrong)
+                        self.slip_refused(25, other, KEY[:15], slip)
+
+    def test_every_byte_of_a_seal(self):
+        """A slip that names anything else than was agreed gets 25; under what it names it is judged."""
+        for place in range(3):
+            for byte in range(256):
+                slip = SLIP[: 26 + place] + bytes([byte]) + SLIP[27 + place :]
+                if slip == SLIP:
+                    continue
+                self.slip_refused(25, AGREED, KEY, slip)
+                try:
+                    read_slip(Agreement(*slip[26:29]), KEY, slip)
+                    self.assertIn((place, byte), ((2, 62), (2, 63)))  # the tag ends in two zero bits
+                except Refused as refused:
+                    self.assertIn(refused.number, (1, 2, 3, 10, 30))
+
+    def test_one_bit(self):
+        """A seal of one bit is right for one of two tags, and 25 for both where 64 bits were agreed."""
+        zero, one = (COVERED + bytes.fromhex("7F0004050401" + tag) for tag in ("00", "80"))
+        self.slip_refused(25, AGREED, KEY, zero)
+        self.slip_refused(25, AGREED, KEY, one)
+        self.slip_refused(30, Agreement(5, 4, 1), KEY, zero)
+        self.assertEqual(read_slip(Agreement(5, 4, 1), KEY, one).lot, b"A7")
+
+    def test_the_order_of_reads(self):
+        """Each refusal with the later ones: 20 to 24, 25, then those of the agreement and the keys."""
+        for number, agreed, keys, seal in (
+            (20, (9, 9, 999), b"", "7F000B050440A47A9299C7B845"),
+            (21, (9, 9, 999), b"", "7E000B050440A47A9299C7B8456C"),
+            (22, (9, 9, 999), b"", "7F0003050440"),
+            (24, (9, 9, 999), b"", "7F000B050440A47A9299C7B8456C00"),
+            (25, (9, 9, 999), b"", "7F000B050440A47A9299C7B8456C"),
+            (25, (9, 4, 64), KEY, "7F000B050440A47A9299C7B8456C"),
+            (25, (5, 4, 64), KEY, "7F000B090440A47A9299C7B8456C"),
+            (1, (9, 4, 64), b"", "7F000B090440A47A9299C7B8456C"),
+            (25, (5, 4, 64), b"", "7F000B050340A47A9299C7B8456C"),
+            (2, (5, 3, 64), b"", "7F000B050340A47A9299C7B8456C"),
+            (25, (7, 4, 63), b"", "7F000B070440A47A9299C7B8456C"),
+            (3, (7, 4, 64), b"", "7F000B070440A47A9299C7B8456C"),
+            (25, (2, 1, 64), KEY, "7F000B020240A47A9299C7B8456C"),
+            (4, (2, 2, 64), KEY, "7F000B020240A47A9299C7B8456C"),
+            (25, (2, 1, 64), KEY + KEY, "7F000C020240A47A9299C7B8456C00"),
+            (5, (2, 2, 64), KEY + KEY, "7F000C020240A47A9299C7B8456C00"),
+            (25, (5, 4, 72), KEY, "7F000C050440A47A9299C7B8456C00"),
+            (10, (5, 4, 64), KEY, "7F000C050440A47A9299C7B8456C00"),
+        ):
+            with self.subTest(number=number, agreed=agreed, seal=seal):
+                self.slip_refused(number, Agreement(*agreed), keys, COVERED + bytes.fromhex(seal))
+        self.slip_refused(23, Agreement(9, 9, 999), b"", SLIP[:3] + b"20230229" + SLIP[11:])
 
     def test_r6_written(self):
         for agreement, seal, keys, _ in self.R6:
@@ -309,9 +377,10 @@ class Slips(Case):
                     tag, calls = make(agreement, keys, covered)
                     slip = covered + b"\x7F\0" + bytes([3 + len(tag), algorithm, padding, m]) + tag
                     with self.subTest(agreement=agreement):
-                        read = read_slip(slip, keys)
+                        read = read_slip(agreement, keys, slip)
                         self.assertEqual((read.expiry, read.lot, read.amount, read.calls), (expiry, lot, amount, calls))
                         self.assertEqual(write_slip(agreement, keys, read.expiry, read.lot, read.amount), slip)
+                        self.slip_refused(25, agreement._replace(m=m + 1), keys, slip)
 
     def test_every_day(self):
         day = datetime.date(2000, 1, 1)
@@ -376,6 +445,7 @@ class Handed(Case):
                 self.assertRaises(ValueError, make, agreement, KEY, b"")
                 self.assertRaises(ValueError, check, agreement, KEY, b"", bytes(8))
                 self.assertRaises(ValueError, Session, agreement, KEY)
+                self.assertRaises(ValueError, read_slip, agreement, KEY, SLIP)
             self.assertRaises(ValueError, make, Agreement(1, 1, 64), KEY, b"", number)
             self.assertRaises(ValueError, Session, Agreement(1, 3, 64), KEY, number)
             self.assertRaises(ValueError, Session(Agreement(1, 1, 64), KEY).piece, b"", number)
@@ -384,11 +454,18 @@ class Handed(Case):
             for date in ((number, 11, 4), (2026, number, 4), (2026, 11, number)):
                 self.assertRaises(ValueError, write_slip, AGREED, KEY, date, b"A7", 500)
 
+    def test_an_agreement_beyond_64_bits_is_not_cut_down(self):
+        for name, number in AGREED._asdict().items():
+            self.assertRaises(ValueError, read_slip, AGREED._replace(**{name: 2**64 + number}), KEY, SLIP)
+
     def test_what_is_no_number_or_no_bytes(self):
         self.assertRaises(TypeError, make, Agreement(1.0, 1, 64), KEY, b"")
+        self.assertRaises(TypeError, read_slip, Agreement(5, 4, 64.0), KEY, SLIP)
+        self.assertRaises(TypeError, read_slip, SLIP, KEY)
         for keys in (None, 16, "0" * 16, [0] * 16):
             self.assertRaises(TypeError, make, Agreement(1, 1, 64), keys, b"")
-            self.assertRaises(TypeError, read_slip, keys, KEY)
+            self.assertRaises(TypeError, read_slip, AGREED, keys, SLIP)
+            self.assertRaises(TypeError, read_slip, AGREED, KEY, keys)
             self.assertRaises(TypeError, write_slip, AGREED, KEY, DAY, keys, 500)
         for date in (None, 20261104, (2026, 11, 4.0), "204"):
             self.assertRaises(TypeError, write_slip, AGREED, KEY, date, b"A7", 500)
@@ -401,7 +478,7 @@ class Handed(Case):
         made = make(plain, KEY, MESSAGE)
         for kind in (bytearray, memoryview, lambda value: array.array("B", value)):
             self.assertEqual(make(plain, kind(KEY), kind(MESSAGE)), made)
-            self.assertEqual(read_slip(kind(SLIP), kind(KEY)).lot, b"A7")
+            self.assertEqual(read_slip(AGREED, kind(KEY), kind(SLIP)).lot, b"A7")
             self.assertEqual(write_slip(AGREED, kind(KEY), DAY, kind(b"A7"), 500), SLIP)
         self.assertEqual(make(plain, KEY, memoryview(MESSAGE)[::2]), make(plain, KEY, MESSAGE[::2]))
 

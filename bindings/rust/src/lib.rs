@@ -35,7 +35,9 @@ pub use refusal::Refusal;
 pub use session::{RefusedFinish, Session};
 pub use slip::{read_slip, write_slip, Contents, Slip, Written};
 
-/// What was agreed on how a tag is made. Any numbers may stand here; the calls refuse those that are not allowed, with 1, 2 and 3.
+/// What was agreed on how a tag is made. It comes from the caller's own records and never from what is checked under it. Any
+/// numbers may stand here; the calls refuse those that are not allowed, with 1, 2 and 3, or [`read_slip`] with 25 where the slip
+/// names others.
 ///
 /// | algorithm | padding | key bytes | m |
 /// |---|---|---|---|

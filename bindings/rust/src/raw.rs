@@ -82,7 +82,13 @@ extern "C" {
 
     fn slipseal_finish(session: Record, tag: *mut u8, tag_len: usize) -> Step;
 
-    fn slipseal_read(slip: *const u8, slip_len: usize, keys: *const u8, keys_len: usize) -> Slip;
+    fn slipseal_read(
+        agreement: Agreement,
+        keys: *const u8,
+        keys_len: usize,
+        slip: *const u8,
+        slip_len: usize,
+    ) -> Slip;
 
     fn slipseal_write(
         agreement: Agreement,
@@ -126,9 +132,9 @@ pub fn finish(record: Record, room: &mut [u8]) -> Step {
     unsafe { slipseal_finish(record, room.as_mut_ptr(), room.len()) }
 }
 
-pub fn read(slip: &[u8], keys: &[u8]) -> Slip {
+pub fn read(agreement: Agreement, keys: &[u8], slip: &[u8]) -> Slip {
     // SAFETY: each pointer comes from a slice and goes with its length.
-    unsafe { slipseal_read(slip.as_ptr(), slip.len(), keys.as_ptr(), keys.len()) }
+    unsafe { slipseal_read(agreement, keys.as_ptr(), keys.len(), slip.as_ptr(), slip.len()) }
 }
 
 pub fn write(agreement: Agreement, keys: &[u8], contents: Contents<'_>, room: &mut [u8]) -> Written {

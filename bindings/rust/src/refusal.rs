@@ -43,6 +43,7 @@ impl Refusal {
             22 => "a field's length or value is not allowed",
             23 => "the expiry is not a real date from 2000 to 2099",
             24 => "there are bytes after the seal",
+            25 => "the slip names another algorithm, padding or m than agreed",
             30 => "the seal is wrong",
             _ => "a number that this binding has no words for",
         }

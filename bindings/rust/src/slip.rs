@@ -1,5 +1,6 @@
-//! Lot slips: expiry, lot and amount of a reagent bottle under a seal. A slip is believed whole or refused with its number, and it is
-//! written whole or not at all.
+//! Lot slips: expiry, lot and amount of a reagent bottle under a seal. A slip is believed whole or refused with its number, and it
+//! is written whole or not at all. The seal is checked under what was agreed; what the slip itself names is compared with that and
+//! used for nothing else.
 
 use crate::{raw, Agreement, Refusal};
 
@@ -33,40 +34,57 @@ pub struct Written<'a> {
     pub calls: u64,
 }
 
-/// Reads a slip under keys. Its seal names the algorithm, padding and m.
+/// Reads a slip under keys and what was agreed with its supplier. The agreement is handed in and never taken from the slip, and the
+/// seal is checked under it. Do not copy the three values that a slip names into the agreement: whoever makes the slip would choose
+/// how it is checked, and a slip that names m = 1 passes with one of two tags.
+///
+/// An accepted slip names exactly the agreement. Its tag covers all bytes before field 7F, and under one agreement and keys two
+/// accepted slips with the same bytes before field 7F are one slip.
 ///
 /// # Errors
 ///
-/// 20 to 24 for the slip's form, field by field; then 1 to 6, 10, and 30 where the seal is wrong.
+/// 20 to 24 for the slip's form, field by field; 25 where its seal names another algorithm, padding or m than agreed, however well
+/// the tag fits; then 1 to 6, 10, and 30 where the seal is wrong.
 ///
 /// ```
+/// use slipseal::{read_slip, Agreement};
+///
 /// let key = [
 ///     0x01, 0x23, 0x45, 0x67, 0x89, 0xAB, 0xCD, 0xEF, 0xFE, 0xDC, 0xBA, 0x98, 0x76, 0x54, 0x32, 0x10,
 /// ];
+/// let agreement = Agreement { algorithm: 5, padding: 4, m: 64 }; // from what is on file for the supplier
 /// let bytes = b"\x01\x00\x0820261104\x02\x00\x02A7\x03\x00\x04\x00\x00\x01\xF4\
 ///     \x7F\x00\x0B\x05\x04\x40\xA4\x7A\x92\x99\xC7\xB8\x45\x6C";
-/// let slip = slipseal::read_slip(bytes, &key)?;
+/// let slip = read_slip(agreement, &key, bytes)?;
 /// let said = slip.contents;
 /// assert_eq!((said.year, said.month, said.day), (2026, 11, 4));
 /// assert_eq!((said.lot, said.amount, slip.calls), (&b"A7"[..], 500, 3));
 ///
-/// let wrong = slipseal::read_slip(bytes, &[0; 16]).unwrap_err();
+/// let wrong = read_slip(agreement, &[0; 16], bytes).unwrap_err();
 /// assert_eq!(wrong.to_string(), "refused 30: the seal is wrong");
+///
+/// // Sealed with a single bit, and one of the two would fit.
+/// for tag in [0x00, 0x80] {
+///     let weak = [&bytes[..23], b"\x7F\x00\x04\x05\x04\x01", &[tag]].concat();
+///     let refusal = read_slip(agreement, &key, &weak).unwrap_err();
+///     assert_eq!(refusal.number(), 25);
+///     assert_eq!(refusal.words(), "the slip names another algorithm, padding or m than agreed");
+/// }
 /// # Ok::<(), slipseal::Refusal>(())
 /// ```
-pub fn read_slip<'a>(slip: &'a [u8], keys: &[u8]) -> Result<Slip<'a>, Refusal> {
-    let read = raw::read(slip, keys);
+pub fn read_slip<'a>(agreement: Agreement, keys: &[u8], slip: &'a [u8]) -> Result<Slip<'a>, Refusal> {
+    let read = raw::read(agreement, keys, slip);
     Refusal::of(read.number)?;
     let lot = &slip[read.lot_at as usize..][..read.lot_len as usize];
     let raw::Slip { year, month, day, amount, calls, .. } = read;
     Ok(Slip { contents: Contents { year, month, day, lot, amount }, calls })
 }
 
-/// Writes a slip, sealed under an agreement and keys, in the front of `room`; what stands behind it stays. It has 27 bytes, the lot's
-/// and ⌈m/8⌉ more, so 75 bytes of room are enough for any slip.
+/// Writes a slip, sealed under an agreement and keys, in the front of `room`; what stands behind it stays. It has 27 bytes, the
+/// lot's and ⌈m/8⌉ more, so 75 bytes of room are enough for any slip.
 ///
-/// [`read_slip`] accepts it under the same keys and gives the contents and the calls back. The contents of an accepted slip, written
-/// under its keys and the agreement that its seal names, come out as that slip, byte for byte.
+/// [`read_slip`] accepts it under the same agreement and keys and gives the contents and the calls back. The contents of an
+/// accepted slip, written under the same agreement and keys, come out as that slip, byte for byte.
 ///
 /// # Errors
 ///
@@ -82,7 +100,7 @@ pub fn read_slip<'a>(slip: &'a [u8], keys: &[u8]) -> Result<Slip<'a>, Refusal> {
 /// let written = write_slip(agreement, &key, contents, &mut room)?;
 /// assert_eq!((written.slip.len(), written.calls), (37, 3));
 ///
-/// let slip = read_slip(written.slip, &key)?;
+/// let slip = read_slip(agreement, &key, written.slip)?;
 /// assert_eq!(slip.contents, contents);
 /// let mut other = [0; 75];
 /// assert_eq!(write_slip(agreement, &key, slip.contents, &mut other)?, written);

@@ -1,18 +1,22 @@
-//! Lot slips: the run R6 of the requirements, read and written; slips made here with `make`, which must be read to their contents and
-//! written from them; every refusal of a write, their order, and what a write leaves in the room lent to it.
+//! Lot slips: the run R6 of the requirements, read and written; slips that name something else than was agreed; slips made here
+//! with `make`, which must be read to their contents and written from them; every refusal of a read and of a write, their order,
+//! and what a write leaves in the room lent to it.
 
 mod common;
 
 use common::{agreed, calls, hex, key, keys};
-use slipseal::{make, read_slip, write_slip, Agreement, Contents};
+use slipseal::{make, raw, read_slip, write_slip, Agreement, Contents};
 
 const GOOD: Contents<'static> = Contents { year: 2026, month: 11, day: 4, lot: b"A7", amount: 500 };
 
-/// Seal, bytes of the keys, and calls of the accepted ones.
-const R6: [(&str, usize, u64); 3] = [
-    ("7F000B050440 A47A9299C7B8456C", 16, 3),
-    ("7F000B020240 25BE21F5FDEE57F4", 32, 3),
-    ("7F000501010C A330", 16, 2),
+/// What was agreed on the first of the three slips below.
+const AGREED: Agreement = agreed(5, 4, 64);
+
+/// What was agreed, seal, bytes of the keys, and calls of the accepted ones.
+const R6: [(Agreement, &str, usize, u64); 3] = [
+    (AGREED, "7F000B050440 A47A9299C7B8456C", 16, 3),
+    (agreed(2, 2, 64), "7F000B020240 25BE21F5FDEE57F4", 32, 3),
+    (agreed(1, 1, 12), "7F000501010C A330", 16, 2),
 ];
 
 const COVERED: &str = "01000832303236313130340200024137030004000001F4";
@@ -25,8 +29,13 @@ fn first() -> Vec<u8> {
     slip("7F000B050440 A47A9299C7B8456C")
 }
 
-fn refused(slip: &[u8], keys: &[u8]) -> u64 {
-    read_slip(slip, keys).unwrap_err().number()
+/// The number of a refused slip, which must have zeros beside it.
+fn refused(agreement: Agreement, keys: &[u8], slip: &[u8]) -> u64 {
+    let number = read_slip(agreement, keys, slip).unwrap_err().number();
+    let s = raw::read(agreement, keys, slip);
+    assert_eq!([s.number, s.year, s.month, s.day], [number, 0, 0, 0]);
+    assert_eq!([s.amount, s.calls, s.lot_at, s.lot_len], [0; 4]);
+    number
 }
 
 /// The slip with these contents, and a seal made with `make`.
@@ -49,9 +58,9 @@ fn with_lot(lot: &[u8]) -> Vec<u8> {
 
 #[test]
 fn r6_accepted() {
-    for (seal, length, calls) in R6 {
+    for (agreement, seal, length, calls) in R6 {
         let bytes = slip(seal);
-        let read = read_slip(&bytes, &keys()[..length]).unwrap();
+        let read = read_slip(agreement, &keys()[..length], &bytes).unwrap();
         assert_eq!((read.contents, read.calls), (GOOD, calls));
         assert!(std::ptr::eq(read.contents.lot, &bytes[14..16]), "the lot is that very part of the slip");
     }
@@ -60,53 +69,176 @@ fn r6_accepted() {
 #[test]
 fn r6_refused() {
     let good = first();
-    assert_eq!(refused(&good, &key()[..15]), 4);
-    assert_eq!(refused(&slip("7F000B050440 A47A9299C7B8456D"), &key()), 30);
-    assert_eq!(refused(&[&good[..], &[0]].concat(), &key()), 24);
-    assert_eq!(refused(&good[..good.len() - 1], &key()), 20);
+    assert_eq!(refused(AGREED, &key()[..15], &good), 4);
+    assert_eq!(refused(AGREED, &key(), &slip("7F000B050440 A47A9299C7B8456D")), 30);
+    assert_eq!(refused(AGREED, &key(), &[&good[..], &[0]].concat()), 24);
+    assert_eq!(refused(AGREED, &key(), &good[..good.len() - 1]), 20);
     for (date, number) in [(b"20230229", 23), (b"04112026", 23), (b"20260411", 30), (b"2023 229", 22)] {
         let mut other = good.clone();
         other[3..11].copy_from_slice(date);
-        assert_eq!(refused(&other, &key()), number);
+        assert_eq!(refused(AGREED, &key(), &other), number);
     }
-    assert_eq!(refused(&slip("7F000501010C A331"), &key()), 30);
+    assert_eq!(refused(agreed(1, 1, 12), &key(), &slip("7F000501010C A331")), 30);
     for (digits, number) in
         [("", 20), ("55", 20), ("010009", 22), ("01000832", 20), (COVERED, 20), ("020008", 21)]
     {
-        assert_eq!(refused(&hex(digits), &key()), number, "{digits}");
+        assert_eq!(refused(AGREED, &key(), &hex(digits)), number, "{digits}");
     }
 }
 
-#[test]
-fn the_seals_settings_are_judged() {
-    for (seal, number) in [
-        ("7F000B090440 0000000000000000", 1),
-        ("7F000B050340 0000000000000000", 2),
-        ("7F000B070440 0000000000000000", 3),
-        ("7F000B020240 0000000000000000", 4),
-        ("7F000C050440 000000000000000000", 10),
-        ("7F0003050440", 22),
-        ("7F0014050440 0000000000000000000000000000000000", 22),
-    ] {
-        assert_eq!(refused(&slip(seal), &key()), number, "{seal}");
-    }
-    assert_eq!(refused(&slip("7F000B020240 0000000000000000"), &[7; 32]), 5);
-}
-
-/// But for the seal's m, which the seal does not cover: the tag ends in two zero bits, so it is that of 62 and 63 bits too.
 #[test]
 fn every_cut_and_every_changed_byte_is_refused() {
     let good = first();
     for cut in 0..good.len() {
-        assert!(read_slip(&good[..cut], &key()).is_err());
+        assert_eq!(refused(AGREED, &key(), &good[..cut]), 20, "cut at {cut}");
     }
     for place in 0..good.len() {
         for byte in (0..=255).filter(|&byte| byte != good[place]) {
             let mut other = good.clone();
             other[place] = byte;
-            let accepted = read_slip(&other, &key()).is_ok();
-            assert_eq!(accepted, place == 28 && (byte == 62 || byte == 63), "byte {place} with {byte}");
+            let number = refused(AGREED, &key(), &other);
+            assert_eq!(number == 25, (26..29).contains(&place), "byte {place} with {byte}: {number}");
         }
+    }
+}
+
+// ---- under what was agreed
+
+/// The slip of the example with other values in its seal and this tag.
+fn naming(named: [u8; 3], tag: &[u8]) -> Vec<u8> {
+    [&hex(COVERED), &[0x7F, 0, 3 + tag.len() as u8][..], &named, tag].concat()
+}
+
+/// An agreement with another number in one of its three places.
+fn with_number(agreement: Agreement, place: usize, number: u64) -> Agreement {
+    let mut numbers = [agreement.algorithm, agreement.padding, agreement.m];
+    numbers[place] = number;
+    let [algorithm, padding, m] = numbers;
+    agreed(algorithm, padding, m)
+}
+
+/// The three numbers are compared whole: the other one is off by one, or equal in its low 8, 16, 31, 32 or 63 bits.
+#[test]
+fn another_agreement() {
+    let far = [8, 16, 31, 32, 63].map(|bits| 1 << bits);
+    for (agreement, seal, length, _) in R6 {
+        let (good, keys) = (slip(seal), &keys()[..length]);
+        let mut wrong = good.clone();
+        *wrong.last_mut().unwrap() ^= 1;
+        assert_eq!(refused(agreement, keys, &wrong), 30);
+        for (place, number) in [agreement.algorithm, agreement.padding, agreement.m].into_iter().enumerate() {
+            let off = [number - 1, number + 1, u64::MAX].into_iter().chain(far.map(|far| number + far));
+            for other in off.map(|number| with_number(agreement, place, number)) {
+                assert_eq!(refused(other, keys, &good), 25, "{other:?}");
+                assert_eq!(refused(other, keys, &wrong), 25, "{other:?}, a wrong tag");
+                assert_eq!(refused(other, &keys[..15], &good), 25, "{other:?}, keys of 15 bytes");
+            }
+        }
+        for (other, ..) in R6.iter().filter(|row| row.0 != agreement) {
+            assert_eq!(refused(*other, keys, &good), 25, "{other:?}");
+        }
+    }
+}
+
+/// 25 exactly where a number of the agreement is not the byte of the seal, for each place, byte and number.
+#[test]
+fn every_number_beside_every_byte() {
+    let key = key();
+    for place in 0..3 {
+        for byte in 0..=255 {
+            let mut other = first();
+            other[26 + place] = byte;
+            for number in 0..=520 {
+                let agreement = with_number(AGREED, place, number);
+                let refusal = raw::read(agreement, &key, &other).number;
+                assert_eq!(refusal == 25, u64::from(byte) != number, "{agreement:?}, byte {byte}: {refusal}");
+            }
+        }
+    }
+}
+
+/// A seal of one bit is right for one of two tags, and 25 for both where 64 bits were agreed.
+#[test]
+fn one_bit() {
+    let (zero, one) = (naming([5, 4, 1], &[0x00]), naming([5, 4, 1], &[0x80]));
+    assert_eq!(refused(AGREED, &key(), &zero), 25);
+    assert_eq!(refused(AGREED, &key(), &one), 25);
+    assert_eq!(refused(agreed(5, 4, 1), &key(), &zero), 30);
+    assert_eq!(read_slip(agreed(5, 4, 1), &key(), &one).unwrap().contents, GOOD);
+}
+
+/// The example's tag ends in two zero bits, so it fits 62 and 63 bits too.
+#[test]
+fn a_tag_that_fits() {
+    let good = first();
+    for m in [62, 63] {
+        let other = naming([5, 4, m], &good[29..]);
+        assert_eq!(refused(AGREED, &key(), &other), 25);
+        assert_eq!(refused(agreed(5, 4, m.into()), &key(), &good), 25);
+        assert_eq!(read_slip(agreed(5, 4, m.into()), &key(), &other).unwrap().contents, GOOD);
+    }
+}
+
+/// Of all tags of 2 bytes over the same fields, one is accepted.
+#[test]
+fn one_slip_under_an_agreement() {
+    let (key, mut slip) = (key(), naming([1, 1, 12], &[0; 2]));
+    let accepted = |tag: &u16| {
+        slip[29..].copy_from_slice(&tag.to_be_bytes());
+        read_slip(agreed(1, 1, 12), &key, &slip).is_ok()
+    };
+    assert_eq!((0..=u16::MAX).filter(accepted).collect::<Vec<_>>(), [0xA330]);
+}
+
+/// An agreement that is not allowed gets its number where the slip names the same, else 25.
+#[test]
+fn unsound_agreements() {
+    for (named, tag, keys, number) in [
+        ([9, 4, 64], 8, &[7; 16][..], 1),
+        ([0, 0, 0], 1, &[], 1),
+        ([255, 255, 255], 16, &[], 1),
+        ([5, 3, 64], 8, &[7; 16], 2),
+        ([7, 4, 64], 8, &[7; 16], 3),
+        ([5, 4, 0], 1, &[7; 16], 3),
+        ([5, 4, 129], 16, &[7; 16], 3),
+        ([2, 2, 64], 8, &[7; 16], 4),
+        ([2, 2, 64], 8, &[7; 32], 5),
+        ([4, 3, 64], 8, &[7; 32], 5),
+        ([5, 4, 64], 9, &[7; 16], 10),
+        ([5, 4, 64], 7, &[7; 16], 10),
+        ([5, 4, 64], 8, &[7; 16], 30),
+    ] {
+        let slip = naming(named, &[0; 16][..tag]);
+        let [algorithm, padding, m] = named.map(u64::from);
+        assert_eq!(refused(agreed(algorithm, padding, m), keys, &slip), number, "{named:?}");
+        for (algorithm, padding, m) in
+            [(algorithm ^ 1, padding, m), (algorithm, padding ^ 1, m), (algorithm, padding, m ^ 1)]
+        {
+            assert_eq!(refused(agreed(algorithm, padding, m), keys, &slip), 25, "{named:?}");
+        }
+    }
+}
+
+/// Under an agreement that is not met and not allowed either, with keys of 3 bytes, a slip gets 20 to 24 first, then 25.
+#[test]
+fn the_form_is_judged_first() {
+    let good = first();
+    let number = |slip: &[u8]| refused(agreed(9, 9, 999), &[0; 3], slip);
+    let changed = |place: usize, byte: u8| {
+        let mut other = good.clone();
+        other[place] = byte;
+        number(&other)
+    };
+    for cut in 0..good.len() {
+        assert_eq!(number(&good[..cut]), 20);
+    }
+    assert_eq!([changed(0, 2), changed(23, 3)], [21, 21]);
+    assert_eq!([changed(3, b'x'), changed(14, b' '), changed(25, 3), changed(25, 20)], [22; 4]);
+    assert_eq!([changed(3, b'1'), changed(7, b'2')], [23, 23]);
+    assert_eq!(number(&[&good[..], &[0]].concat()), 24);
+    assert_eq!(number(&good), 25);
+    for seal in ["7F0003050440", "7F0014050440 0000000000000000000000000000000000"] {
+        assert_eq!([number(&slip(seal)), refused(AGREED, &key(), &slip(seal))], [22, 22], "{seal}");
     }
 }
 
@@ -115,14 +247,13 @@ fn lots_of_1_to_32_bytes() {
     for length in 1..=32 {
         let lot: Vec<u8> = (0..length).map(|i| 0x7E - i).collect();
         let slip = with_lot(&lot);
-        let read = read_slip(&slip, &key()).unwrap();
+        let read = read_slip(agreed(8, 4, 128), &key(), &slip).unwrap();
         let contents = Contents { year: 2099, month: 12, day: 31, lot: &lot, amount: 1_000_000 };
         assert_eq!(read.contents, contents);
     }
-    assert_eq!(refused(&with_lot(b""), &key()), 22);
-    assert_eq!(refused(&with_lot(&[b'A'; 33]), &key()), 22);
-    assert_eq!(refused(&with_lot(b"A 7"), &key()), 22);
-    assert_eq!(refused(&with_lot(b"A\x7F"), &key()), 22);
+    for lot in [&b""[..], &[b'A'; 33], b"A 7", b"A\x7F"] {
+        assert_eq!(refused(agreed(8, 4, 128), &key(), &with_lot(lot)), 22, "{lot:?}");
+    }
 }
 
 // ---- written
@@ -148,16 +279,14 @@ fn unwritten(agreement: Agreement, keys: &[u8], contents: Contents, room: usize)
 /// The number of a write under a good agreement and with room for any slip, 0 where it is accepted.
 fn judged(contents: Contents) -> u64 {
     let mut room = [0xAA; 75];
-    let refusal = write_slip(agreed(5, 4, 64), &key(), contents, &mut room).err();
+    let refusal = write_slip(AGREED, &key(), contents, &mut room).err();
     assert_eq!(room == [0xAA; 75], refusal.is_some(), "a refusal writes nothing");
     refusal.map_or(0, |refusal| refusal.number())
 }
 
 #[test]
 fn r6_written() {
-    for (seal, length, calls) in R6 {
-        let named = hex(&seal[6..12]);
-        let agreement = agreed(named[0].into(), named[1].into(), named[2].into());
+    for (agreement, seal, length, calls) in R6 {
         assert_eq!(written(agreement, &keys()[..length], GOOD), (slip(seal), calls));
     }
 }
@@ -175,10 +304,11 @@ fn both_ways() {
             let (year, month, day) = (2000 + m % 100, m % 12 + 1, m % 28 + 1);
             let contents = Contents { year, month, day, lot: &lot, amount: 7812 * m };
             let slip = sealed(agreement, &keys, contents);
-            let read = read_slip(&slip, &keys).unwrap();
+            let read = read_slip(agreement, &keys, &slip).unwrap();
             let calls = calls(algorithm, padding, 8 * (21 + lot.len()));
             assert_eq!((read.contents, read.calls), (contents, calls), "{agreement:?}");
             assert_eq!(written(agreement, &keys, read.contents), (slip.clone(), calls), "{agreement:?}");
+            assert_eq!(refused(agreed(algorithm, padding, m + 1), &keys, &slip), 25, "{agreement:?}");
         }
     }
 }
@@ -221,9 +351,9 @@ fn every_byte_and_length_of_a_lot() {
 fn amounts() {
     for amount in [1, 2, 255, 256, 65_535, 65_536, 999_999, 1_000_000] {
         let contents = Contents { amount, ..GOOD };
-        let slip = written(agreed(5, 4, 64), &key(), contents).0;
+        let slip = written(AGREED, &key(), contents).0;
         assert_eq!(slip[19..23], (amount as u32).to_be_bytes());
-        assert_eq!(read_slip(&slip, &key()).unwrap().contents, contents);
+        assert_eq!(read_slip(AGREED, &key(), &slip).unwrap().contents, contents);
     }
     for amount in [0, 1_000_001, u32::MAX.into(), (1 << 32) + 500, u64::MAX] {
         assert_eq!(judged(Contents { amount, ..GOOD }), 22, "{amount}");
@@ -233,7 +363,6 @@ fn amounts() {
 /// What a narrower type would cut to a good number is refused.
 #[test]
 fn far_numbers() {
-    let plain = agreed(5, 4, 64);
     for far in [1 << 8, 1 << 16, 1 << 31, 1 << 32, 1 << 63] {
         assert_eq!(judged(Contents { year: far + 2026, ..GOOD }), 23);
         assert_eq!(judged(Contents { month: far + 11, ..GOOD }), 23);
@@ -243,17 +372,17 @@ fn far_numbers() {
         assert_eq!(unwritten(agreed(5, 4, far + 64), &key(), GOOD, 75), 3);
     }
     for far in [1 << 32, 1 << 63] {
-        assert_eq!(unwritten(plain, &key(), Contents { amount: far + 500, ..GOOD }, 75), 22);
+        assert_eq!(unwritten(AGREED, &key(), Contents { amount: far + 500, ..GOOD }, 75), 22);
     }
     let all = Contents { year: u64::MAX, month: u64::MAX, day: u64::MAX, ..GOOD };
-    assert_eq!(unwritten(plain, &key(), all, 75), 23);
+    assert_eq!(unwritten(AGREED, &key(), all, 75), 23);
 }
 
 #[test]
 fn each_room() {
     let long = [b'~'; 32];
     for (agreement, contents, length) in [
-        (agreed(5, 4, 64), GOOD, 37),
+        (AGREED, GOOD, 37),
         (agreed(1, 1, 1), Contents { lot: b"!", ..GOOD }, 29),
         (agreed(1, 2, 8), Contents { lot: b"!", ..GOOD }, 29),
         (agreed(1, 3, 9), Contents { lot: b"!", ..GOOD }, 30),

@@ -43,11 +43,12 @@ fn refusals() -> Vec<Refusal> {
     let changed = |place: usize, byte: u8| {
         let mut slip = good.to_vec();
         slip[place] = byte;
-        read_slip(&slip, &key()).unwrap_err()
+        read_slip(agreed(1, 1, 1), &key(), &slip).unwrap_err()
     };
-    let cut = read_slip(&good[..9], &key()).unwrap_err();
-    let longer = read_slip(&[&good[..], &[0]].concat(), &key()).unwrap_err();
-    let slips = [cut, changed(0, 2), changed(3, b'x'), changed(3, b'1'), longer, changed(29, 0x7F)];
+    let cut = read_slip(agreed(1, 1, 1), &key(), &good[..9]).unwrap_err();
+    let longer = read_slip(agreed(1, 1, 1), &key(), &[&good[..], &[0]].concat()).unwrap_err();
+    let slips =
+        [cut, changed(0, 2), changed(3, b'x'), changed(3, b'1'), longer, changed(28, 2), changed(29, 0x7F)];
     makes.into_iter().chain([four, eleven, twelve]).chain(slips).collect()
 }
 

@@ -1,6 +1,7 @@
-// The functions for C, each called as C calls it: a tag is made and checked; a session is started, fed, tried too early and with too
-// little room, and finished; a struct whose phase is none of the three comes back as it came; a slip is read; the same slip is written,
-// and refused a room that is a byte too small. Every answer is known beforehand (docs/ARCHITECTURE.md, "Tests").
+// The functions for C, each called as C calls it: a tag is made and checked; a session is started, fed, tried too early and with
+// too little room, and finished; a struct whose phase is none of the three comes back as it came; a slip is read under what was
+// agreed, under another key and under another m; the same slip is written, and refused a room that is a byte too small. Every
+// answer is known beforehand (docs/ARCHITECTURE.md, "Tests").
 const KEYS: [u8; 32] = *b"\
     \x01\x23\x45\x67\x89\xab\xcd\xef\xfe\xdc\xba\x98\x76\x54\x32\x10\
     \x41\x49\xd2\xad\xed\x94\x56\x68\x1e\xc8\xb5\x11\xd9\xe7\xee\x04";
@@ -14,8 +15,9 @@ fn main() {
     one_call(&keys[0..16]);
     in_session(&keys);
     let slip = SLIP;
-    read(&slip, &keys[0..16]);
-    read(&slip, &keys[16..]);
+    read(64, &keys[0..16], &slip);
+    read(64, &keys[16..], &slip);
+    read(63, &keys[0..16], &slip);
     write(&keys[0..16]);
 }
 
@@ -130,8 +132,14 @@ fn in_session(keys: &[u8]) {
     finish(b"finish:", short);
 }
 
-fn read(slip: &[u8], key: &[u8]) {
-    let answer = slipseal::slipseal_read(slip, key);
+// The slip is sealed under algorithm 5, padding 4 and 64 bits.
+fn read(m: usize, key: &[u8], slip: &[u8]) {
+    let agreed = settings::Agreement {
+        algorithm: 5,
+        padding: 4,
+        m,
+    };
+    let answer = slipseal::slipseal_read(agreed, key, slip);
     print(b"read:");
     number(answer.number);
     number(answer.year);

@@ -10,11 +10,11 @@
 //     forge PHASE PART A P M DECLARED TOTAL K K1 CHAIN HELD   forged: the session is now this record
 //     same                                whether the command on the session before this one left every field of it: same or changed
 //     halves A P M KEYS MESSAGE CALLS TAG   G of N cuts: of the N ways to cut the message in two at a byte, G end with the tag and the calls
-//     slip KEYS SLIP                      accepted DATE lot LOT at PLACE length BYTES amount AMOUNT calls CALLS, LOT being the part that
+//     slip A P M KEYS SLIP                accepted DATE lot LOT at PLACE length BYTES amount AMOUNT calls CALLS, LOT being the part that
 //                                         comes back; or refused N, and "with values" where another field or the part is not empty
-//     changed KEYS SLIP                   the slip with each byte changed to every other value: how many are accepted, and how many get
+//     changed A P M KEYS SLIP             the slip with each byte changed to every other value: how many are accepted, and how many get
 //                                         which refusal (31: one with values)
-//     prefixes KEYS SLIP                  the same for every beginning that is shorter than the slip
+//     prefixes A P M KEYS SLIP            the same for every beginning that is shorter than the slip
 //     write A P M KEYS YEAR MONTH DAY LOT AMOUNT ROOM   written LENGTH bytes CALLS calls and the room's bytes; or refused N, "with values"
 //                                         where length or calls are not 0, and whether the room is untouched
 //

@@ -1,4 +1,5 @@
-// Commands on lot slips: one slip read, a slip with each byte changed to every other value, and every beginning of a slip.
+// Commands on lot slips under what was agreed: one slip read, a slip with each byte changed to every other value, and every beginning
+// of a slip.
 use crate::words;
 use words::print;
 
@@ -7,30 +8,36 @@ type Counts = [usize; 32];
 
 pub(crate) fn command(kind: usize, line: &[u8]) {
     let mut keys = io::buffer();
-    let key_bytes = words::bytes(line, 1, &mut keys);
+    let key_bytes = words::bytes(line, 4, &mut keys);
     let mut slip = io::buffer();
-    let slip_bytes = words::bytes(line, 2, &mut slip);
-    answer(kind, words::first(&keys, key_bytes), &mut slip, slip_bytes);
+    let slip_bytes = words::bytes(line, 5, &mut slip);
+    answer(
+        kind,
+        words::agreement(line),
+        words::first(&keys, key_bytes),
+        &mut slip,
+        slip_bytes,
+    );
 }
 
 // The slip is the first so many bytes of the room.
-fn answer(kind: usize, keys: &[u8], room: &mut [u8], size: usize) {
+fn answer(kind: usize, agreement: settings::Agreement, keys: &[u8], room: &mut [u8], size: usize) {
     if kind == crate::SLIP {
-        print_read(keys, words::first(room, size));
+        print_read(agreement, keys, words::first(room, size));
         return;
     }
     if kind == crate::CHANGED {
-        print_counts(changed(keys, room, size));
+        print_counts(changed(agreement, keys, room, size));
         return;
     }
-    print_counts(prefixes(keys, words::first(room, size)));
+    print_counts(prefixes(agreement, keys, words::first(room, size)));
 }
 
 // ---- one slip
 
 // The number that a slip gets; 31 where a refusal comes with a value that is not zero or a part that is not empty.
-fn number(keys: &[u8], slip: &[u8]) -> usize {
-    let read = slip::read(slip, keys);
+fn number(agreement: settings::Agreement, keys: &[u8], slip: &[u8]) -> usize {
+    let read = slip::read(agreement, keys, slip);
     if read.number == 0 {
         return 0;
     }
@@ -42,21 +49,21 @@ fn number(keys: &[u8], slip: &[u8]) -> usize {
         | contents.lot_at
         | contents.lot_len
         | read.calls
-        | slip::lot(slip, keys).len();
+        | slip::lot(agreement, keys, slip).len();
     if values != 0 {
         return 31;
     }
     read.number
 }
 
-fn print_read(keys: &[u8], slip: &[u8]) {
-    let read = slip::read(slip, keys);
+fn print_read(agreement: settings::Agreement, keys: &[u8], slip: &[u8]) {
+    let read = slip::read(agreement, keys, slip);
     if read.number == 0 {
-        print_accepted(read.contents, slip::lot(slip, keys), read.calls);
+        print_accepted(read.contents, slip::lot(agreement, keys, slip), read.calls);
         return;
     }
     words::print_both(b"refused ", read.number);
-    if number(keys, slip) != read.number {
+    if number(agreement, keys, slip) != read.number {
         print(b" with values");
     }
 }
@@ -88,14 +95,21 @@ fn counted(counts: Counts, no: usize) -> Counts {
 }
 
 // Every byte changed to each of its other values, one at a time.
-fn changed(keys: &[u8], room: &mut [u8], size: usize) -> Counts {
+fn changed(agreement: settings::Agreement, keys: &[u8], room: &mut [u8], size: usize) -> Counts {
     let mut counts = [0usize; 32];
     let mut left = size % 4097 * 255;
     while 0 < left {
         left -= 1;
         let next = counted(
             counts,
-            turned(keys, room, size, left / 255, (left % 255) as u8 + 1),
+            turned(
+                agreement,
+                keys,
+                room,
+                size,
+                left / 255,
+                (left % 255) as u8 + 1,
+            ),
         );
         counts = next;
     }
@@ -103,22 +117,29 @@ fn changed(keys: &[u8], room: &mut [u8], size: usize) -> Counts {
 }
 
 // The number of the slip with these bits of one byte turned.
-fn turned(keys: &[u8], room: &mut [u8], size: usize, at: usize, bits: u8) -> usize {
+fn turned(
+    agreement: settings::Agreement,
+    keys: &[u8],
+    room: &mut [u8],
+    size: usize,
+    at: usize,
+    bits: u8,
+) -> usize {
     if room.len() <= at {
         return 31;
     }
     room[at] = room[at] ^ bits;
-    let no = number(keys, words::first(room, size));
+    let no = number(agreement, keys, words::first(room, size));
     room[at] = room[at] ^ bits;
     no
 }
 
 // Every beginning of a slip that is not the whole.
-fn prefixes(keys: &[u8], slip: &[u8]) -> Counts {
+fn prefixes(agreement: settings::Agreement, keys: &[u8], slip: &[u8]) -> Counts {
     let mut counts = [0usize; 32];
     let mut size = 0;
     while size < slip.len() {
-        let next = counted(counts, number(keys, words::first(slip, size)));
+        let next = counted(counts, number(agreement, keys, words::first(slip, size)));
         counts = next;
         size += 1;
     }

@@ -37,6 +37,21 @@ pub fn far_bits(r: &mut Random) -> u64 {
     }
 }
 
+/// An agreement of which one number is another: by one, in a bit of the lowest byte, in those above it alone, or any other.
+pub fn another(r: &mut Random, Agreement { algorithm, padding, m }: Agreement) -> Agreement {
+    let mut numbers = [algorithm, padding, m];
+    let number = &mut numbers[r.below(3) as usize];
+    *number = match r.below(5) {
+        0 => number.wrapping_add(1),
+        1 => number.wrapping_sub(1),
+        2 => *number ^ (1 << r.below(8)),
+        3 => *number ^ (1 << (8 + r.below(56))),
+        _ => number.wrapping_add((r.draw() >> r.below(64)).max(1)),
+    };
+    let [algorithm, padding, m] = numbers;
+    Agreement { algorithm, padding, m }
+}
+
 /// An agreement and keys for it.
 #[derive(Clone)]
 pub struct Settings {

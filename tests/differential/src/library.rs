@@ -48,8 +48,9 @@ pub fn finish(record: &Record, room: &mut [u8]) -> (Record, Answer) {
     step(raw::finish(inward(record), room))
 }
 
-pub fn read(slip: &[u8], keys: &[u8]) -> Slip {
-    let raw::Slip { number, year, month, day, amount, calls, lot_at, lot_len } = raw::read(slip, keys);
+pub fn read(agreement: Agreement, keys: &[u8], slip: &[u8]) -> Slip {
+    let read = raw::read(agreed(agreement), keys, slip);
+    let raw::Slip { number, year, month, day, amount, calls, lot_at, lot_len } = read;
     Slip { number, year, month, day, amount, calls, lot_at, lot_len }
 }
 

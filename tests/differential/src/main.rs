@@ -13,14 +13,16 @@ use std::time::Instant;
 const SEED: u64 = 20_261_104;
 const COUNT: u64 = 400_000;
 
-/// The answers that can arise, of each function; a slip that was written is read back, and one that was accepted written again.
-const ANSWERS: [(&str, &[&str]); 9] = [
+/// The answers that can arise, of each function; a slip that was written is read back, one that was accepted written again, and one
+/// that was read is read under another agreement than it names.
+const ANSWERS: [(&str, &[&str]); 10] = [
     ("make", &["0", "1", "2", "3", "4", "5", "7", "8", "9", "10"]),
     ("check", &["yes", "no", "1", "2", "3", "4", "5", "7", "8", "9", "10"]),
     ("start", &["0", "1", "2", "3", "4", "5", "8"]),
     ("piece", &["0", "11", "7", "8", "12"]),
     ("finish", &["0", "11", "12", "9", "10"]),
-    ("read", &["0", "20", "21", "22", "23", "24", "1", "2", "3", "4", "5", "10", "30"]),
+    ("read", &["0", "20", "21", "22", "23", "24", "25", "1", "2", "3", "4", "5", "10", "30"]),
+    ("other", &["20", "21", "22", "23", "24", "25"]),
     ("write", &["0", "22", "23", "1", "2", "3", "4", "5", "10"]),
     ("back", &["0"]),
     ("again", &["0"]),

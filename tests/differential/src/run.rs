@@ -15,7 +15,8 @@ pub struct Run {
     /// The words that repeat the case at hand.
     pub case: String,
     /// Of each function, how often each number was answered; a checked "yes" and "no" stand apart, and so do the slips that are read
-    /// because they were written ("back") and written because they were read ("again").
+    /// because they were written ("back"), written because they were read ("again"), and read under something else than they name
+    /// ("other").
     pub answers: BTreeMap<&'static str, BTreeMap<String, u64>>,
     /// Sessions whose tag and calls were those of one call.
     pub joined: u64,
@@ -31,7 +32,7 @@ pub fn word(bytes: &[u8]) -> String {
 }
 
 /// An agreement as the reference's command lines have it.
-fn words(Agreement { algorithm, padding, m }: Agreement) -> String {
+pub fn words(Agreement { algorithm, padding, m }: Agreement) -> String {
     format!("{algorithm} {padding} {m}")
 }
 
@@ -162,19 +163,24 @@ impl Run {
         (want.0, want.1, theirs.inner().to_vec())
     }
 
-    pub fn read(&mut self, slip: &[u8], keys: &[u8]) -> Slip {
-        self.reading("read", slip, keys)
+    pub fn read(&mut self, agreement: Agreement, keys: &[u8], slip: &[u8]) -> Slip {
+        self.reading("read", agreement, keys, slip)
     }
 
     /// Reads a slip that was written.
-    pub fn read_back(&mut self, slip: &[u8], keys: &[u8]) -> Slip {
-        self.reading("back", slip, keys)
+    pub fn read_back(&mut self, agreement: Agreement, keys: &[u8], slip: &[u8]) -> Slip {
+        self.reading("back", agreement, keys, slip)
     }
 
-    fn reading(&mut self, function: &'static str, slip: &[u8], keys: &[u8]) -> Slip {
-        let got = library::read(slip, keys);
-        let want = slip::read(slip, keys);
-        self.same(&got, &want, || format!("slip {} {}", word(keys), word(slip)));
+    /// Reads a slip under something else than it names.
+    pub fn read_other(&mut self, agreement: Agreement, keys: &[u8], slip: &[u8]) -> Slip {
+        self.reading("other", agreement, keys, slip)
+    }
+
+    fn reading(&mut self, function: &'static str, agreement: Agreement, keys: &[u8], slip: &[u8]) -> Slip {
+        let got = library::read(agreement, keys, slip);
+        let want = slip::read(agreement, keys, slip);
+        self.same(&got, &want, || format!("slip {} {} {}", words(agreement), word(keys), word(slip)));
         self.count(function, want.number.to_string());
         want
     }

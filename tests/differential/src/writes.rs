@@ -3,7 +3,7 @@
 //! each algorithm and padding is written into rooms at the border, and so is every day, lot byte and amount at the borders of theirs.
 
 use crate::draw::{far, near, once_in, Settings};
-use crate::run::{word, Room, Run};
+use crate::run::{word, words, Room, Run};
 use reference::cases::Random;
 use reference::mac::m_limit;
 use reference::slip::{Says, Slip, Written};
@@ -96,23 +96,23 @@ fn write(r: &mut Random, run: &mut Run, s: &Settings, says: &Says, size: usize) 
         let Says { year, month, day, ref lot, amount } = *says;
         let (calls, lot_len) = (written.calls, lot.len() as u64);
         let wanted = Slip { number: 0, year, month, day, amount, calls, lot_at: 14, lot_len };
-        let ours = (length(s, says), run.read_back(slip, &s.keys), &slip[14..14 + lot.len()]);
+        let read = run.read_back(s.agreement, &s.keys, slip);
+        let ours = (length(s, says), read, &slip[14..14 + lot.len()]);
         run.same(&ours, &(slip.len(), wanted, &lot[..]), || format!("slip {} as written", word(slip)));
     }
     written.number
 }
 
-/// An accepted slip, written again from what was read of it.
-pub fn again(r: &mut Random, run: &mut Run, slip: &[u8], keys: &[u8], read: &Slip) {
+/// An accepted slip, written again from what was read of it, under the same agreement and keys.
+pub fn again(r: &mut Random, run: &mut Run, s: &Settings, slip: &[u8], read: &Slip) {
     let Slip { year, month, day, amount, calls, lot_at, lot_len, .. } = *read;
     let (lot_at, lot_end) = (lot_at as usize, (lot_at + lot_len) as usize);
     let says = Says { year, month, day, lot: slip[lot_at..lot_end].to_vec(), amount };
-    let [algorithm, padding, m] = [10, 11, 12].map(|place| slip[lot_end + place].into());
     let size = slip.len() + r.below(3) as usize;
     let room = Room::new(r, size);
-    let (written, bytes) = run.write_again(Agreement { algorithm, padding, m }, keys, &says, room);
+    let (written, bytes) = run.write_again(s.agreement, &s.keys, &says, room);
     let wanted = Written { number: 0, length: slip.len() as u64, calls };
-    let what = || format!("slip {} {}, written again", word(keys), word(slip));
+    let what = || format!("slip {} {} {}, written again", words(s.agreement), word(&s.keys), word(slip));
     run.same(&(written, &bytes[..slip.len()]), &(wanted, slip), what);
 }
 

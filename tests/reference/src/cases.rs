@@ -42,6 +42,9 @@
 //! 8. by below(12): 0: cut to below(length + 1) bytes; 1: one byte below(256) put after;
 //!    2: i = below(length), then byte i becomes below(256); 3: i = below(length), then byte i xor
 //!    1 << below(8); 4: the last byte xor 1 << below(8); else nothing.
+//! 9. It is read under the algorithm, padding and m of 7.; by below(20): 0 to 3: i = below(3), then number i
+//!    of the three becomes one more with 0, one less with 1, 1 << WIDE[below(8)] more with 2, far with 3;
+//!    4: the three are those of new Settings; else nothing.
 //!
 //! # A slip to be written
 //!
@@ -182,7 +185,27 @@ fn draw_says(r: &mut Random) -> Says {
     Says { year, month, day, lot, amount }
 }
 
-/// A slip and the settings whose keys it is read under.
+/// What a slip is read under that was written with these numbers.
+fn draw_agreed(r: &mut Random, named: [u64; 3]) -> Agreement {
+    let mut numbers = named;
+    let kind = r.below(20);
+    if kind < 4 {
+        let number = &mut numbers[r.below(3) as usize];
+        *number = match kind {
+            0 => number.wrapping_add(1),
+            1 => number.wrapping_sub(1),
+            2 => *number + (1 << r.one_of(&WIDE)),
+            _ => r.one_of(&FAR),
+        };
+    }
+    if kind == 4 {
+        numbers = Settings::draw(r).words();
+    }
+    let [algorithm, padding, m] = numbers;
+    Agreement { algorithm, padding, m }
+}
+
+/// A slip and the settings that it is read under.
 pub fn draw_slip(r: &mut Random) -> (Vec<u8>, Settings) {
     let mut s = Settings::draw(r);
     let [algorithm, padding, m] = s.words().map(|number| number % 256);
@@ -220,6 +243,7 @@ pub fn draw_slip(r: &mut Random) -> (Vec<u8>, Settings) {
         4 => slip[length as usize - 1] ^= 1 << r.below(8),
         _ => (),
     }
+    s.agreement = draw_agreed(r, [algorithm, padding, m]);
     (slip, s)
 }
 

@@ -1,4 +1,4 @@
-//! Plain reference of document 01 and of 02 §1: SM4, the four paddings and the eight algorithms of GB/T 15852.1
+//! Plain reference of document 01 and of 02 §1 and §2: SM4, the four paddings and the eight algorithms of GB/T 15852.1
 //! (approval draft), one-call making and checking, sessions by pieces, and lot slips, read and written.
 //! Written from the documents alone, to produce expected outputs and to compare with.
 //!

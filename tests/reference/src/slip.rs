@@ -1,4 +1,4 @@
-//! The lot slip, read (01 "The lot slip", open points 24 to 26) and written (02 §1, open point 29).
+//! The lot slip, read under an agreement (01 "The lot slip", 02 §2, open points 24 to 26 and 29) and written (02 §1).
 
 use crate::call::{check, make, Agreement};
 use crate::padding::bytes_for;
@@ -88,7 +88,7 @@ fn decimal(digits: &[u8]) -> u64 {
     digits.iter().fold(0, |value, digit| 10 * value + u64::from(digit - b'0'))
 }
 
-fn parse(slip: &[u8], keys: &[u8]) -> Result<Slip, u64> {
+fn parse(agreement: Agreement, keys: &[u8], slip: &[u8]) -> Result<Slip, u64> {
     let expiry = field(slip, 0, EXPIRY, 8..=8)?;
     demand(expiry.iter().all(u8::is_ascii_digit), 22)?;
     let (year, month, day) = (decimal(&expiry[..4]), decimal(&expiry[4..6]), decimal(&expiry[6..]));
@@ -107,8 +107,10 @@ fn parse(slip: &[u8], keys: &[u8]) -> Result<Slip, u64> {
     let seal = field(slip, seal_at, SEAL, 4..=19)?;
     demand(slip.len() == seal_at + 3 + seal.len(), 24)?;
 
+    let named = Agreement { algorithm: seal[0].into(), padding: seal[1].into(), m: seal[2].into() };
+    demand(named == agreement, 25)?;
+
     let (covered, bits) = (&slip[..seal_at], 8 * seal_at as u64);
-    let agreement = Agreement { algorithm: seal[0].into(), padding: seal[1].into(), m: seal[2].into() };
     let answer = check(agreement, keys, covered, bits, &seal[3..]);
     demand(answer.number == 0, answer.number)?;
     demand(answer.yes == 1, 30)?;
@@ -119,29 +121,30 @@ fn parse(slip: &[u8], keys: &[u8]) -> Result<Slip, u64> {
 /// How often each number was answered, 0 for an accepted slip.
 pub type Tally = std::collections::BTreeMap<u64, u64>;
 
-fn tally(slips: impl Iterator<Item = Vec<u8>>, keys: &[u8]) -> Tally {
+fn tally(agreement: Agreement, keys: &[u8], slips: impl Iterator<Item = Vec<u8>>) -> Tally {
     let mut tally = Tally::new();
     for slip in slips {
-        *tally.entry(read(&slip, keys).number).or_default() += 1;
+        *tally.entry(read(agreement, keys, &slip).number).or_default() += 1;
     }
     tally
 }
 
 /// The slip with each byte replaced by every other value, one byte at a time.
-pub fn changed(slip: &[u8], keys: &[u8]) -> Tally {
+pub fn changed(agreement: Agreement, keys: &[u8], slip: &[u8]) -> Tally {
     let one = |at: usize, value: u8| [&slip[..at], &[value], &slip[at + 1..]].concat();
     let others =
         |at: usize| (0..=255).filter(move |value| *value != slip[at]).map(move |value| one(at, value));
-    tally((0..slip.len()).flat_map(others), keys)
+    tally(agreement, keys, (0..slip.len()).flat_map(others))
 }
 
 /// The slip cut short, to every length below its own.
-pub fn prefixes(slip: &[u8], keys: &[u8]) -> Tally {
-    tally((0..slip.len()).map(|length| slip[..length].to_vec()), keys)
+pub fn prefixes(agreement: Agreement, keys: &[u8], slip: &[u8]) -> Tally {
+    tally(agreement, keys, (0..slip.len()).map(|length| slip[..length].to_vec()))
 }
 
-pub fn read(slip: &[u8], keys: &[u8]) -> Slip {
-    parse(slip, keys).unwrap_or_else(|number| Slip { number, ..Slip::default() })
+/// Reads a slip: what its seal names is compared with the agreement, and its seal is checked under the agreement.
+pub fn read(agreement: Agreement, keys: &[u8], slip: &[u8]) -> Slip {
+    parse(agreement, keys, slip).unwrap_or_else(|number| Slip { number, ..Slip::default() })
 }
 
 /// A field as it is written: its tag, the length of its value, high byte first, and the value.

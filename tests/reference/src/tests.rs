@@ -508,6 +508,45 @@ fn random_sessions_agree_with_one_call() {
 const COVERED: &str = "01000832303236313130340200024137030004000001F4";
 const SEAL: &str = "7F000B050440A47A9299C7B8456C";
 
+/// What that seal names.
+const NAMED: Agreement = Agreement { algorithm: 5, padding: 4, m: 64 };
+
+/// The three accepted slips of appendix R6: what was agreed, the keys and the seal.
+const R6: [(Agreement, &str, &str); 3] = [
+    (NAMED, K, SEAL),
+    (Agreement { algorithm: 2, padding: 2, m: 64 }, KK, "7F000B02024025BE21F5FDEE57F4"),
+    (Agreement { algorithm: 1, padding: 1, m: 12 }, K, "7F000501010CA330"),
+];
+
+/// P12's fields under a seal.
+fn p12(seal: &str) -> Vec<u8> {
+    h(&[COVERED, seal].concat())
+}
+
+/// P12's fields under a seal that names the lowest bytes of these three and has this tag.
+fn naming(Agreement { algorithm, padding, m }: Agreement, tag: &[u8]) -> Vec<u8> {
+    let head = [0x7F, 0, 3 + tag.len() as u8, algorithm as u8, padding as u8, m as u8];
+    [&h(COVERED), &head[..], tag].concat()
+}
+
+/// What a slip names whose seal stands in its place.
+fn named(slip: &[u8]) -> Agreement {
+    let at = usize::from(slip[13]) + 24;
+    agreed(slip[at].into(), slip[at + 1].into(), slip[at + 2].into())
+}
+
+/// The agreements of which one number is another, so much more or less.
+fn off_by(by: u64, Agreement { algorithm, padding, m }: Agreement) -> [Agreement; 6] {
+    [
+        agreed(algorithm.wrapping_sub(by), padding, m),
+        agreed(algorithm.wrapping_add(by), padding, m),
+        agreed(algorithm, padding.wrapping_sub(by), m),
+        agreed(algorithm, padding.wrapping_add(by), m),
+        agreed(algorithm, padding, m.wrapping_sub(by)),
+        agreed(algorithm, padding, m.wrapping_add(by)),
+    ]
+}
+
 fn refused(number: u64) -> Slip {
     Slip { number, ..Slip::default() }
 }
@@ -527,92 +566,234 @@ fn slip(date: &str, lot: &[u8], amount: u32) -> Vec<u8> {
 fn appendix_r6_slips() {
     let accepted =
         Slip { number: 0, year: 2026, month: 11, day: 4, amount: 500, calls: 3, lot_at: 14, lot_len: 2 };
-    let first = h(&[COVERED, SEAL].concat());
-    assert_eq!(read(&first, &h(K)), accepted);
-    assert_eq!(read(&h(&[COVERED, "7F000B02024025BE21F5FDEE57F4"].concat()), &h(KK)), accepted);
-    let short = h(&[COVERED, "7F000501010CA330"].concat());
-    assert_eq!(read(&short, &h(K)), Slip { calls: 2, ..accepted });
-    assert_eq!(read(&h(&[COVERED, "7F000501010CA331"].concat()), &h(K)), refused(30));
-    let dated = |date: &str| [&first[..3], date.as_bytes(), &first[11..]].concat();
-    assert_eq!(read(&first, &h(K)[..15]), refused(4));
-    assert_eq!(read(&[&first[..36], &[0x6D]].concat(), &h(K)), refused(30));
-    assert_eq!(read(&[&first[..], &[0]].concat(), &h(K)), refused(24));
-    assert_eq!(read(&first[..36], &h(K)), refused(20));
-    for (date, number) in [("20230229", 23), ("04112026", 23), ("20260411", 30), ("20261104", 0)] {
-        assert_eq!(read(&dated(date), &h(K)).number, number);
+    for ((agreement, keys, seal), calls) in R6.into_iter().zip([3, 3, 2]) {
+        assert_eq!(read(agreement, &h(keys), &p12(seal)), Slip { calls, ..accepted });
     }
-    for (bytes, number) in [("", 20), ("55", 20), ("010009", 22), ("01000832", 20), (COVERED, 20)] {
-        assert_eq!(read(&h(bytes), &h(K)), refused(number));
+    assert_eq!(read(R6[2].0, &h(K), &p12("7F000501010CA331")), refused(30));
+    let first = p12(SEAL);
+    let number = |slip: &[u8]| {
+        let slip = read(NAMED, &h(K), slip);
+        assert!(slip == accepted || slip == refused(slip.number));
+        slip.number
+    };
+    assert_eq!(read(NAMED, &h(K)[..15], &first), refused(4));
+    assert_eq!(number(&[&first[..36], &[0x6D]].concat()), 30);
+    assert_eq!(number(&[&first[..], &[0]].concat()), 24);
+    assert_eq!(number(&first[..36]), 20);
+    for (date, wanted) in [("20230229", 23), ("04112026", 23), ("20260411", 30), ("20261104", 0)] {
+        assert_eq!(number(&[&first[..3], date.as_bytes(), &first[11..]].concat()), wanted);
+    }
+    for (bytes, wanted) in [("", 20), ("55", 20), ("010009", 22), ("01000832", 20), (COVERED, 20)] {
+        assert_eq!(number(&h(bytes)), wanted);
     }
 }
 
 #[test]
 fn slip_refusals() {
-    let first = h(&[COVERED, SEAL].concat());
+    let first = p12(SEAL);
     for length in 0..first.len() {
-        assert_eq!(read(&first[..length], &h(K)), refused(20)); // cut anywhere
+        assert_eq!(read(NAMED, &h(K), &first[..length]), refused(20)); // cut anywhere
     }
+    let with = |at: usize, byte: u8| [&first[..at], &[byte], &first[at + 1..]].concat();
     #[rustfmt::skip]
-    let rows: [(usize, u8, u64); 20] = [
+    let rows: [(usize, u8, u64); 16] = [
         (0, 0x02, 21), (1, 0x01, 22), (2, 0x07, 22), (3, 0x2F, 22), (3, 0x3A, 22), // expiry
         (11, 0x03, 21), (13, 0x00, 22), (13, 0x21, 22), (14, 0x20, 22), (15, 0x7F, 22), // lot
         (16, 0x7F, 21), (18, 0x05, 22), // amount
         (23, 0x03, 21), (25, 0x03, 22), (25, 0x14, 22), (25, 0x13, 20), // seal
-        (26, 0x09, 1), (27, 0x01, 2), (28, 0x81, 3), (28, 0x41, 10),
     ];
     for (at, byte, number) in rows {
-        let mut bytes = first.clone();
-        bytes[at] = byte;
-        assert_eq!(read(&bytes, &h(K)), refused(number), "byte {at} {byte}");
+        assert_eq!(read(NAMED, &h(K), &with(at, byte)), refused(number), "byte {at} {byte}");
     }
-    let seal2 = h(&[COVERED, "7F000B020240A47A9299C7B8456C"].concat());
-    assert_eq!(read(&seal2, &[h(K), h(K)].concat()), refused(5));
-    assert_eq!(read(&seal2, &h(K)), refused(4));
+    // what the seal names: 25, and under an agreement of the same the number of its own fault
+    for (at, byte, number) in [(26, 0x09, 1), (27, 0x01, 2), (28, 0x81, 3), (28, 0x41, 10)] {
+        let slip = with(at, byte);
+        let both = (read(NAMED, &h(K), &slip), read(named(&slip), &h(K), &slip));
+        assert_eq!(both, (refused(25), refused(number)), "byte {at} {byte}");
+    }
+    let two = p12("7F000B020240A47A9299C7B8456C");
+    assert_eq!(read(named(&two), &[h(K), h(K)].concat(), &two), refused(5));
+    assert_eq!(read(named(&two), &h(K), &two), refused(4));
     // order: 22 of a digit before 23, 24 before 1 to 6, 4 before 10, 10 before 30
-    assert_eq!(read(&slip("2023 229", b"A", 1), &h(K)), refused(22));
-    let mut two_faults = [&first[..], &[0]].concat();
-    two_faults[26] = 0;
-    assert_eq!(read(&two_faults, &h(K)), refused(24));
-    let mut nine = [&first[..], &[0]].concat();
-    nine[25] = 0x0C;
-    assert_eq!((read(&nine, &h(K)[..15]), read(&nine, &h(K))), (refused(4), refused(10)));
+    assert_eq!(read(NAMED, &h(K), &slip("2023 229", b"A", 1)), refused(22));
+    let long = [&first[..], &[0]].concat();
+    let two_faults = [&long[..26], &[0], &long[27..]].concat();
+    assert_eq!(read(named(&two_faults), &h(K), &two_faults), refused(24));
+    let nine = [&long[..25], &[0x0C], &long[26..]].concat();
+    assert_eq!((read(NAMED, &h(K)[..15], &nine), read(NAMED, &h(K), &nine)), (refused(4), refused(10)));
 }
 
 #[test]
 fn slip_values() {
+    let number = |slip: &[u8]| read(NAMED, &h(K), slip).number;
     #[rustfmt::skip]
     let dates = [
         ("20000101", 0), ("20991231", 0), ("20240229", 0), ("20000229", 0), ("20260430", 0),
         ("19991231", 23), ("21000101", 23), ("20230229", 23), ("20240230", 23), ("20260431", 23),
         ("20260001", 23), ("20261301", 23), ("20260100", 23), ("20260132", 23),
     ];
-    for (date, number) in dates {
-        assert_eq!(read(&slip(date, b"A7", 500), &h(K)).number, number, "{date}");
+    for (date, wanted) in dates {
+        assert_eq!(number(&slip(date, b"A7", 500)), wanted, "{date}");
     }
-    for (amount, number) in [(0, 22), (1, 0), (1_000_000, 0), (1_000_001, 22), (u32::MAX, 22)] {
-        assert_eq!(read(&slip("20261104", b"A7", amount), &h(K)).number, number);
+    for (amount, wanted) in [(0, 22), (1, 0), (1_000_000, 0), (1_000_001, 22), (u32::MAX, 22)] {
+        assert_eq!(number(&slip("20261104", b"A7", amount)), wanted);
     }
-    for (lot, number) in [(0, 22), (1, 0), (32, 0), (33, 22)] {
-        assert_eq!(read(&slip("20261104", &vec![b'~'; lot], 1), &h(K)).number, number);
+    for (lot, wanted) in [(0, 22), (1, 0), (32, 0), (33, 22)] {
+        assert_eq!(number(&slip("20261104", &vec![b'~'; lot], 1)), wanted);
     }
 }
 
-/// With a full tag whose last bit is set, no byte of the slip can be changed and none left out at the end.
-/// Where that bit is not set, m = 127 is a right seal too, since the seal does not cover m.
+/// One number off by one: 25, with a right tag or a wrong one, and whatever the keys.
+#[test]
+fn agreement_not_met() {
+    let all = [h(KK), h(K)].concat();
+    let mut keys: Vec<Vec<u8>> = [0, 15, 16, 17, 31, 32, 33, 48].map(|count| all[..count].to_vec()).into();
+    keys.push([h(K), h(K)].concat());
+    for (agreement, good_keys, seal) in R6 {
+        let right = p12(seal);
+        let mut wrong = right.clone();
+        *wrong.last_mut().unwrap() ^= 0x10;
+        assert_eq!(read(agreement, &h(good_keys), &right).number, 0);
+        assert_eq!(read(agreement, &h(good_keys), &wrong), refused(30));
+        for other in off_by(1, agreement) {
+            for keys in &keys {
+                assert_eq!(read(other, keys, &right), refused(25), "{other:?} {}", keys.len());
+                assert_eq!(read(other, keys, &wrong), refused(25), "{other:?} {}", keys.len());
+            }
+        }
+    }
+}
+
+/// The whole numbers are compared: that the lowest bits are the same is not enough.
+#[test]
+fn agreement_met_in_the_lowest_bits_alone() {
+    let tag = &h(SEAL)[6..];
+    let faulty = [agreed(9, 4, 64), agreed(5, 7, 64), agreed(5, 4, 0), agreed(255, 255, 255)];
+    for agreement in R6.map(|(agreement, ..)| agreement).into_iter().chain(faulty) {
+        let slip = naming(agreement, tag);
+        assert_ne!(read(agreement, &h(K), &slip), refused(25));
+        for other in (8..64).flat_map(|bit| off_by(1 << bit, agreement)) {
+            assert_eq!(read(other, &h(K), &slip), refused(25), "{other:?}");
+        }
+    }
+}
+
+/// 20 to 24 come before 25, and 25 before 1 to 5, 10 and 30: a slip that names what was agreed gets the number of its fault, and so
+/// does a sound one 0; where what it names or what was agreed is one off, it gets 25.
+#[test]
+fn order_of_the_agreement() {
+    let first = p12(SEAL);
+    let long = [&first[..], &[0]].concat();
+    for other in off_by(1, NAMED) {
+        let number = |slip: &[u8]| read(other, &h(K), slip).number;
+        assert!((0..first.len()).all(|length| number(&first[..length]) == 20));
+        assert_eq!((number(&first[11..]), number(&slip("20261104", b"A7", 0))), (21, 22));
+        assert_eq!((number(&slip("20230229", b"A7", 500)), number(&long)), (23, 24));
+    }
+    let (k, same, tag) = (&h(K)[..], &[h(K), h(K)].concat()[..], &h(SEAL)[6..]);
+    let rows = [
+        (agreed(0, 4, 64), k, tag, 1),
+        (agreed(9, 4, 64), k, tag, 1),
+        (agreed(255, 4, 64), k, tag, 1),
+        (agreed(5, 7, 64), k, tag, 2),
+        (agreed(5, 4, 0), k, tag, 3),
+        (agreed(5, 4, 129), k, tag, 3),
+        (agreed(7, 4, 64), k, tag, 3),
+        (NAMED, &k[..15], tag, 4),
+        (agreed(2, 1, 64), k, tag, 4),
+        (agreed(2, 1, 64), same, tag, 5),
+        (NAMED, k, &tag[..7], 10),
+        (agreed(5, 4, 65), k, tag, 10),
+        (agreed(8, 4, 64), k, tag, 30),
+        (NAMED, k, tag, 0),
+    ];
+    for (agreement, keys, tag, number) in rows {
+        assert_eq!(read(agreement, keys, &naming(agreement, tag)).number, number, "{agreement:?}");
+        for other in off_by(1, agreement) {
+            assert_eq!(read(agreement, keys, &naming(other, tag)), refused(25), "{agreement:?} {other:?}");
+            assert_eq!(read(other, keys, &naming(agreement, tag)), refused(25), "{agreement:?} {other:?}");
+        }
+    }
+}
+
+/// With m = 1 one of two tags is right; under an agreed m = 64 neither passes.
+#[test]
+fn a_tag_of_one_bit() {
+    let slips = [0x00, 0x80].map(|tag| naming(agreed(5, 4, 1), &[tag]));
+    let under = |agreement: Agreement| slips.each_ref().map(|slip| read(agreement, &h(K), slip).number);
+    assert_eq!(under(agreed(5, 4, 1)), [30, 0]); // the tag of 64 bits begins with A4
+    assert_eq!(under(NAMED), [25, 25]);
+}
+
+/// A slip that names something else than agreed gets 25 however well it is sealed: under what it names, where it is accepted,
+/// or under what was agreed.
+#[test]
+fn slips_sealed_under_other_settings() {
+    let (covered, pairs) = (h(COVERED), (1..=8).flat_map(|a| (1..=4).map(move |p| (a, p))));
+    for (a, p) in pairs.filter(|(a, p)| mac::padding_fits(*a, *p)) {
+        let keys = h(if mac::two_keys(a) { KK } else { K });
+        for m in [1, 8, 60, 63, 64, 65, 128].into_iter().filter(|m| *m <= mac::m_limit(a)) {
+            let own = agreed(a, p, m);
+            let tag = made(own, &keys, &covered, 184).1;
+            for other in off_by(1, own).into_iter().chain(R6.map(|(agreement, ..)| agreement)) {
+                let wanted = if other == own { 0 } else { 25 };
+                assert_eq!(read(own, &keys, &naming(own, &tag)).number, 0);
+                assert_eq!(read(other, &keys, &naming(own, &tag)).number, wanted);
+                assert_eq!(read(own, &keys, &naming(other, &tag)).number, wanted);
+            }
+        }
+    }
+}
+
+/// No byte of a slip with a full tag can be changed under what was agreed, and none left out at the end. The seal does not cover m:
+/// where the tag's last bit is 0, it fits m = 127 too, and only the agreement tells the two apart.
 #[test]
 fn slips_changed_and_cut() {
     let covered = h(COVERED);
-    for lot in [b'7', b'8', b'9'] {
+    let mut ends = [0; 2];
+    for lot in b'0'..=b'9' {
         let covered = [&covered[..15], &[lot], &covered[16..]].concat();
         let tag = made(agreed(5, 4, 128), &h(K), &covered, 184).1;
-        let slip = [covered, h("7F0013050480"), tag.clone()].concat();
-        let open = tag[15] % 2 == 0;
-        assert_eq!(read(&slip, &h(K)).number, 0);
-        let changed = slips::changed(&slip, &h(K));
+        let slip = [covered.clone(), h("7F0013050480"), tag.clone()].concat();
+        assert_eq!(read(agreed(5, 4, 128), &h(K), &slip).number, 0);
+        let changed = slips::changed(agreed(5, 4, 128), &h(K), &slip);
         assert_eq!(changed.values().sum::<u64>(), 255 * slip.len() as u64);
-        assert_eq!(changed.contains_key(&0), open);
-        assert_eq!(slips::prefixes(&slip, &h(K)), [(20, slip.len() as u64)].into());
+        assert_eq!((changed.get(&0), changed[&25]), (None, 3 * 255));
+        assert!(changed.keys().all(|number| (20..=25).contains(number) || *number == 30));
+        assert_eq!(slips::prefixes(agreed(5, 4, 128), &h(K), &slip), [(20, slip.len() as u64)].into());
+
+        let last = usize::from(tag[15] % 2);
+        ends[last] += 1;
+        let slip = [covered, h("7F001305047F"), tag].concat();
+        assert_eq!(read(agreed(5, 4, 127), &h(K), &slip).number, [0, 30][last]);
+        assert_eq!(read(agreed(5, 4, 128), &h(K), &slip), refused(25));
     }
+    assert!(ends[0] > 0 && ends[1] > 0);
+}
+
+/// The slips that are drawn get every answer. Where the layout is clean, 25 comes exactly where the slip names something else than
+/// agreed; where it is not, the agreement moves nothing.
+#[test]
+fn drawn_slips_get_every_answer() {
+    let (mut random, mut often) = (Random::new(6), slips::Tally::new());
+    for _ in 0..20_000 {
+        let (slip, s) = draw_slip(&mut random);
+        let number = read(s.agreement, s.keys(), &slip).number;
+        *often.entry(number).or_default() += 1;
+        let other = draw_slip(&mut random).1;
+        let under_other = read(other.agreement, other.keys(), &slip).number;
+        if (20..=24).contains(&number) {
+            assert_eq!(under_other, number);
+            continue;
+        }
+        assert_eq!(number == 25, s.agreement != named(&slip));
+        assert_eq!(under_other == 25, other.agreement != named(&slip));
+        assert_ne!(read(named(&slip), s.keys(), &slip).number, 25);
+    }
+    for number in [0, 1, 2, 3, 4, 5, 10, 20, 21, 22, 23, 24, 25, 30] {
+        assert!(often.get(&number) > Some(&20), "{number}: {often:?}");
+    }
+    assert_eq!(often.len(), 14, "{often:?}");
 }
 
 /// A call to `write`: into a room of so many bytes.
@@ -659,13 +840,8 @@ impl Print {
 
 #[test]
 fn appendix_r6_written() {
-    let rows = [
-        (agreed(5, 4, 64), K, SEAL, 3),
-        (agreed(2, 2, 64), KK, "7F000B02024025BE21F5FDEE57F4", 3),
-        (agreed(1, 1, 12), K, "7F000501010CA330", 2),
-    ];
-    for (agreement, keys, seal, calls) in rows {
-        let slip = h(&[COVERED, seal].concat());
+    for ((agreement, keys, seal), calls) in R6.into_iter().zip([3, 3, 2]) {
+        let slip = p12(seal);
         let length = slip.len();
         for room in 0..length + 20 {
             let (written, bytes) = Print { room, ..Print::p12(agreement, keys) }.run();
@@ -782,7 +958,7 @@ fn order_of_refusals_when_writing() {
     assert_eq!(all.number(), 22);
 }
 
-/// What is written is read back with the same fields and calls.
+/// What is written is read back under the same agreement, with the same fields and calls.
 #[test]
 fn written_slips_are_read_back() {
     let (mut random, mut accepted) = (Random::new(4), 0);
@@ -797,27 +973,26 @@ fn written_slips_are_read_back() {
         let (calls, lot_len) = (written.calls, lot.len() as u64);
         let wanted = Slip { number: 0, year, month, day, amount, calls, lot_at: 14, lot_len };
         let slip = &bytes[..written.length as usize];
-        assert_eq!(read(slip, s.keys()), wanted);
+        assert_eq!(read(s.agreement, s.keys(), slip), wanted);
         assert_eq!(slip[14..14 + lot.len()], lot);
         accepted += 1;
     }
 }
 
-/// An accepted slip, written again from its fields and settings, comes out byte for byte.
+/// An accepted slip, written again from its fields under the same agreement, comes out byte for byte.
 #[test]
 fn accepted_slips_are_written_again() {
     let (mut random, mut accepted) = (Random::new(5), 0);
     while accepted < 3000 {
         let (slip, s) = draw_slip(&mut random);
-        let Slip { number, year, month, day, amount, calls, lot_at, lot_len } = read(&slip, s.keys());
+        let read = read(s.agreement, s.keys(), &slip);
+        let Slip { number, year, month, day, amount, calls, lot_at, lot_len } = read;
         if number != 0 {
             continue;
         }
-        let (lot_at, amount_at) = (lot_at as usize, (lot_at + lot_len) as usize);
-        let says = Says { year, month, day, lot: slip[lot_at..amount_at].to_vec(), amount };
-        let [algorithm, padding, m] = [10, 11, 12].map(|at| slip[amount_at + at].into());
-        let agreement = agreed(algorithm, padding, m);
-        let one = Print { agreement, keys: s.keys().to_vec(), says, room: slip.len() };
+        let lot = slip[lot_at as usize..(lot_at + lot_len) as usize].to_vec();
+        let says = Says { year, month, day, lot, amount };
+        let one = Print { agreement: s.agreement, keys: s.keys().to_vec(), says, room: slip.len() };
         let length = slip.len() as u64;
         assert_eq!(one.run(), (Written { number: 0, length, calls }, slip));
         accepted += 1;

@@ -20,7 +20,7 @@ pub fn keys() -> Vec<u8> {
     hex("0123456789ABCDEFFEDCBA9876543210 4149D2ADED9456681EC8B511D9E7EE04")
 }
 
-pub fn agreed(algorithm: u64, padding: u64, m: u64) -> Agreement {
+pub const fn agreed(algorithm: u64, padding: u64, m: u64) -> Agreement {
     Agreement { algorithm, padding, m }
 }
 

@@ -3,7 +3,8 @@
 //!     make A P M KEYS MESSAGE BITS ROOM    check A P M KEYS MESSAGE BITS TAG
 //!     start A P M KEYS DECLARED    piece BYTES BITS    zeros BYTES PIECES    finish ROOM    same
 //!     forge PHASE PART A P M DECLARED TOTAL K K1 CHAIN HELD
-//!     halves A P M KEYS MESSAGE CALLS TAG    slip KEYS SLIP    changed KEYS SLIP    prefixes KEYS SLIP
+//!     halves A P M KEYS MESSAGE CALLS TAG
+//!     slip A P M KEYS SLIP    changed A P M KEYS SLIP    prefixes A P M KEYS SLIP
 //!     write A P M KEYS YEAR MONTH DAY LOT AMOUNT ROOM
 //!
 //! Words have one blank between them. Numbers are decimal, below 2^64. Bytes are hex digits, at most 4096 bytes, and - is no
@@ -98,8 +99,8 @@ fn halves(agreement: Agreement, keys: &[u8], message: &[u8], tag: &[u8], calls: 
     format!("{good} of {} cuts", message.len() + 1)
 }
 
-fn read(slip: &[u8], keys: &[u8]) -> String {
-    let s = slip::read(slip, keys);
+fn read(agreement: Agreement, keys: &[u8], slip: &[u8]) -> String {
+    let s = slip::read(agreement, keys, slip);
     if s.number != 0 {
         return format!("refused {}", s.number);
     }
@@ -157,9 +158,13 @@ impl State {
                 let agreement = agreed(a, p, m)?;
                 Some(halves(agreement, &bytes(keys)?, &bytes(message)?, &bytes(tag)?, number(calls)?))
             }
-            ["slip", keys, slip] => Some(read(&bytes(slip)?, &bytes(keys)?)),
-            ["changed", keys, slip] => Some(counted(slip::changed(&bytes(slip)?, &bytes(keys)?))),
-            ["prefixes", keys, slip] => Some(counted(slip::prefixes(&bytes(slip)?, &bytes(keys)?))),
+            ["slip", a, p, m, keys, slip] => Some(read(agreed(a, p, m)?, &bytes(keys)?, &bytes(slip)?)),
+            ["changed", a, p, m, keys, slip] => {
+                Some(counted(slip::changed(agreed(a, p, m)?, &bytes(keys)?, &bytes(slip)?)))
+            }
+            ["prefixes", a, p, m, keys, slip] => {
+                Some(counted(slip::prefixes(agreed(a, p, m)?, &bytes(keys)?, &bytes(slip)?)))
+            }
             ["write", a, p, m, keys, year, month, day, lot, amount, size] => {
                 let (year, month, day) = (number(year)?, number(month)?, number(day)?);
                 let says = Says { year, month, day, lot: bytes(lot)?, amount: number(amount)? };

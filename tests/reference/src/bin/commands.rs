@@ -55,7 +55,8 @@ fn call(r: &mut Random) {
 
 fn slip(r: &mut Random) {
     let (slip, s) = draw_slip(r);
-    println!("slip {} {}", word(s.keys()), word(&slip));
+    let Agreement { algorithm, padding, m } = s.agreement;
+    println!("slip {algorithm} {padding} {m} {} {}", word(s.keys()), word(&slip));
 }
 
 fn write(r: &mut Random) {

@@ -7,10 +7,10 @@ use Rattle.test_cases.proofs.slips.changed.Statement.{statement}
 use Rattle.test_cases.proofs.slips.changed.Tie as tie
 
 abbrev Inv-loop : tie.InvT-loop
-Inv-loop keys room₀ size counts₀ left₀ room counts left = length room ≡ length room₀
+Inv-loop agreement keys room₀ size counts₀ left₀ room counts left = length room ≡ length room₀
 
 abbrev μ-loop : tie.MeasureT-loop
-μ-loop keys room₀ size counts₀ left₀ room counts left = left
+μ-loop agreement keys room₀ size counts₀ left₀ room counts left = left
 
 pub changed-spec : {M : Type 1} → statement M
 changed-spec =

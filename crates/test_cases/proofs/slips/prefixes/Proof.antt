@@ -7,10 +7,10 @@ use Rattle.test_cases.proofs.slips.prefixes.Statement.{statement}
 use Rattle.test_cases.proofs.slips.prefixes.Tie as tie
 
 abbrev Inv-loop : tie.InvT-loop
-Inv-loop keys slip counts₀ size₀ counts size = size ≤ length slip
+Inv-loop agreement keys slip counts₀ size₀ counts size = size ≤ length slip
 
 abbrev μ-loop : tie.MeasureT-loop
-μ-loop keys slip counts₀ size₀ counts size = length slip - size
+μ-loop agreement keys slip counts₀ size₀ counts size = length slip - size
 
 pub prefixes-spec : {M : Type 1} → statement M
 prefixes-spec =
