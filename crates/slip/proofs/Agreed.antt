@@ -7,47 +7,32 @@
 use mathlib.Core.Path.{_≡_, refl, sym, ap, _∙_}
 use mathlib.Core.Bool.{Bool, true, false, not}
 use mathlib.Core.List.{List}
-use Prim.Native.Nat.{ℕ, _*_}
-use native.Mathlib.Omega.{arith}
+use Prim.Native.Nat.{ℕ}
 use lib.Dec.{eqb}
 use lib.ListN.{length, getD}
 use contract.Lifetimes.{Lfts}
 use borrow.Fn.Kinds.{Dens}
 use borrow.Author.Tests.{eqb-true, eqb-false, eq-eqb}
 use Rattle.bits.specs.Choice.{firstOf}
-use Rattle.bits.specs.Str.{Bits, sameBytes}
+use Rattle.bits.specs.Str.{sameBytes}
 use Rattle.bits.proofs.Faults.{passed, done, clear-first, all, with, every-first, first-append, first-append-clear}
 use Rattle.bits.proofs.Same.{sameBytes-true, sameBytes-eq}
-use Rattle.cipher.specs.Ciphers.{cipherAt}
-use Rattle.cipher.proofs.Laws.{sm4-width, lawful-at}
-use Rattle.mac.specs.Padding.{methodAt}
-use Rattle.mac.specs.Algorithm.{algorithmAt}
-use Rattle.mac.specs.Tag.{bitsOf, bytesFor, tagBytes}
-use Rattle.mac.proofs.OneBlock.{tag-long}
-use Rattle.mac.proofs.TagBytes.{length-tagBytes}
-use Rattle.keys.specs.Given.{keysOf}
-use Rattle.settings.specs.Faults.{settingsFaults, settingsRefusal}
-use Rattle.settings.specs.Answers.{settingsOf}
-use Rattle.settings.proofs.Sound.{sound-size}
+use Rattle.mac.specs.Tag.{bytesFor, tagBytes}
+use Rattle.settings.specs.Faults.{settingsFaults}
 use Rattle.settings.specs.declared.Agreement.{Agreement}
 use Rattle.message.specs.Faults.{tagLengthWrong}
-use Rattle.tag.specs.OneCall.{tagAt}
-use Rattle.fields.specs.Layout.{sealField, covered, layoutFaults}
+use Rattle.fields.specs.Layout.{sealField, layoutFaults}
 use Rattle.slip.specs.Slip.{namedValues, agreedValues, agreementUnmet, tagNamed, sealDefined, sealWrong, agreementFaults, slipFaults, refusedSlip}
-use Rattle.slip.proofs.Judged.{agreement-numbered, sealFaultsUnder, met-first, unmet-first, unmet-refused, believed}
-use Rattle.slip.proofs.Whole.{Accepted, tag-defined, named-agreed}
+use Rattle.slip.proofs.Judged.{agreement-numbered, sealBits, seal-bits, seal-bytes, sealFaultsUnder, met-first, unmet-first, unmet-refused, believed}
+use Rattle.slip.proofs.Whole.{Accepted, Names, tag-defined, named-agreed}
 use Rattle.slip.proofs.Numbers.{layout-every, Reading, keysRead, slipRead, read-number, read-accepted}
 use Rattle.slip.proofs.read.Kinds as read-k
 
 -- ---- what is said
 
--- the tag over the covered bytes that an agreement and keys give, in bits
-abbrev pub sealBits : Agreement → List ℕ → List ℕ → Bits
-sealBits A keys s = tagAt (settingsOf A) (keysOf keys) (covered s) (8 * length (covered s))
-
 pub record Agrees (A : Agreement) (keys s : List ℕ) : Type 0 where
   -- algorithm, padding and m stand in the slip as they were agreed
-  pub named : namedValues (sealField s) ≡ agreedValues A
+  pub named : Names A s
   -- the seal is a tag of the agreed number of bits, in as many bytes as hold them
   pub bits : length (sealBits A keys s) ≡ A .m
   pub seal : tagNamed s ≡ tagBytes (sealBits A keys s)
@@ -58,17 +43,6 @@ abbrev pub SameValues : Agreement → Agreement → Type 0
 SameValues A B = (A .algorithm ≡ B .algorithm) × ((A .padding ≡ B .padding) × (A .m ≡ B .m))
 
 -- ---- a slip that is accepted
-
--- its tag has as many bits as were agreed
-seal-bits : (A : Agreement) (keys s : List ℕ) → firstOf (agreementFaults A keys) ≡ 0 → length (sealBits A keys s) ≡ A .m
-unfolding tagAt settingsRefusal
-seal-bits A keys s sound =
-    let size = sound-size A (length keys) (keysOf keys) sound in
-    tag-long (cipherAt 1) (lawful-at 1) (algorithmAt (A .algorithm)) (methodAt (A .padding)) (keysOf keys) (A .m) (bitsOf (covered s) (8 * length (covered s))) (omega (arith, sm4-width, size))
-
--- and stands in as many bytes as hold them
-seal-bytes : (A : Agreement) (keys s : List ℕ) → firstOf (agreementFaults A keys) ≡ 0 → length (tagBytes (sealBits A keys s)) ≡ bytesFor (A .m)
-seal-bytes A keys s sound = length-tagBytes _ ∙ ap bytesFor (seal-bits A keys s sound)
 
 pub accepted-agrees : (A : Agreement) (keys s : List ℕ) → Accepted A keys s → Agrees A keys s
 unfolding sealDefined
@@ -86,7 +60,7 @@ one-agreement A B keys keys′ s h h′ = same-values A B (sym (named-agreed A k
 -- ---- a slip that names what was agreed, or something else
 
 module _ (A : Agreement) (s : List ℕ) where
-  named-other : ¬ (namedValues (sealField s) ≡ agreedValues A) → agreementUnmet A (sealField s) ≡ true
+  named-other : ¬ Names A s → agreementUnmet A (sealField s) ≡ true
   unfolding agreementUnmet
   named-other other = go (sameBytes (namedValues (sealField s)) (agreedValues A)) refl
     where
@@ -94,13 +68,13 @@ module _ (A : Agreement) (s : List ℕ) where
       go true e = absurd (other (sameBytes-eq (namedValues (sealField s)) (agreedValues A) e))
       go false e = refl
 
-  named-same : namedValues (sealField s) ≡ agreedValues A → agreementUnmet A (sealField s) ≡ false
+  named-same : Names A s → agreementUnmet A (sealField s) ≡ false
   unfolding agreementUnmet
   named-same e = ap not (sameBytes-true (namedValues (sealField s)) (agreedValues A) e)
 
 -- a slip in order that names what was agreed, under keys that no rule refuses, is accepted where its seal is the agreed settings' tag
 pub sealed-accepted : (A : Agreement) (keys s : List ℕ) → firstOf (layoutFaults s) ≡ 0 → firstOf (agreementFaults A keys) ≡ 0
-    → namedValues (sealField s) ≡ agreedValues A → tagNamed s ≡ tagBytes (sealBits A keys s) → Accepted A keys s
+    → Names A s → tagNamed s ≡ tagBytes (sealBits A keys s) → Accepted A keys s
 unfolding tagLengthWrong sealWrong sealDefined
 sealed-accepted A keys s clear sound names tag =
     let length-right = ap not (eq-eqb _ _ (ap length tag ∙ seal-bytes A keys s sound)) in
@@ -108,7 +82,7 @@ sealed-accepted A keys s clear sound names tag =
     ∙ first-append-clear (agreementFaults A keys) _ (agreement-numbered A keys) sound ∙ clear-first (passed length-right (passed (ap not (sameBytes-true _ _ tag)) done))
 
 module _ (A : Agreement) (keys s : List ℕ) where
-  pub unmet-25 : firstOf (layoutFaults s) ≡ 0 → ¬ (namedValues (sealField s) ≡ agreedValues A) → firstOf (slipFaults A keys s) ≡ 25
+  pub unmet-25 : firstOf (layoutFaults s) ≡ 0 → ¬ Names A s → firstOf (slipFaults A keys s) ≡ 25
   unmet-25 clear other = unmet-first A keys s clear (named-other A s other)
 
   -- no other rule answers 25
@@ -119,11 +93,11 @@ module _ (A : Agreement) (keys s : List ℕ) where
   unfolding settingsFaults
   seal-other = every-first {P = λ n. eqb n 25 ≡ false} refl (with refl (with refl (with refl (with refl (with refl (with refl (with refl (with refl all))))))))
 
-  pub only-unmet-25 : firstOf (slipFaults A keys s) ≡ 25 → (firstOf (layoutFaults s) ≡ 0) × ¬ (namedValues (sealField s) ≡ agreedValues A)
+  pub only-unmet-25 : firstOf (slipFaults A keys s) ≡ 25 → (firstOf (layoutFaults s) ≡ 0) × ¬ Names A s
   unfolding slipFaults
   only-unmet-25 e = go (eqb (firstOf (layoutFaults s)) 0) refl
     where
-      go : (b : Bool) → eqb (firstOf (layoutFaults s)) 0 ≡ b → (firstOf (layoutFaults s) ≡ 0) × ¬ (namedValues (sealField s) ≡ agreedValues A)
+      go : (b : Bool) → eqb (firstOf (layoutFaults s)) 0 ≡ b → (firstOf (layoutFaults s) ≡ 0) × ¬ Names A s
       go true h =
           let clear = eqb-true (firstOf (layoutFaults s)) 0 h in
           (clear, λ same. eqb-false (firstOf (sealFaultsUnder A keys s)) 25 seal-other (sym (met-first A keys s clear (named-same A s same)) ∙ e))
@@ -136,13 +110,13 @@ module _ (κs : Lfts 2) (a : Dens κs read-k.ps) (x : Reading κs a) where
   read-agrees good = accepted-agrees (a .0) (keysRead κs a) (slipRead κs a) (read-accepted κs a x good)
 
   pub read-sealed : firstOf (layoutFaults (slipRead κs a)) ≡ 0 → firstOf (agreementFaults (a .0) (keysRead κs a)) ≡ 0
-      → namedValues (sealField (slipRead κs a)) ≡ agreedValues (a .0) → tagNamed (slipRead κs a) ≡ tagBytes (sealBits (a .0) (keysRead κs a) (slipRead κs a)) → x .result .number ≡ 0
+      → Names (a .0) (slipRead κs a) → tagNamed (slipRead κs a) ≡ tagBytes (sealBits (a .0) (keysRead κs a) (slipRead κs a)) → x .result .number ≡ 0
   read-sealed clear sound names tag = read-number κs a x ∙ sealed-accepted (a .0) (keysRead κs a) (slipRead κs a) clear sound names tag
 
-  pub read-25 : firstOf (layoutFaults (slipRead κs a)) ≡ 0 → ¬ (namedValues (sealField (slipRead κs a)) ≡ agreedValues (a .0)) → x .result ≡ refusedSlip 25
+  pub read-25 : firstOf (layoutFaults (slipRead κs a)) ≡ 0 → ¬ Names (a .0) (slipRead κs a) → x .result ≡ refusedSlip 25
   read-25 clear other = x .ensures ∙ sym (unmet-refused (a .0) (keysRead κs a) (slipRead κs a) clear (named-other (a .0) (slipRead κs a) other))
 
-  pub read-only-25 : x .result .number ≡ 25 → (firstOf (layoutFaults (slipRead κs a)) ≡ 0) × ¬ (namedValues (sealField (slipRead κs a)) ≡ agreedValues (a .0))
+  pub read-only-25 : x .result .number ≡ 25 → (firstOf (layoutFaults (slipRead κs a)) ≡ 0) × ¬ Names (a .0) (slipRead κs a)
   read-only-25 e = only-unmet-25 (a .0) (keysRead κs a) (slipRead κs a) (sym (read-number κs a x) ∙ e)
 
 module _ (κs : Lfts 2) (a : Dens κs read-k.ps) (x : Reading κs a) (λs : Lfts 2) (b : Dens λs read-k.ps) (y : Reading λs b)

@@ -13,25 +13,29 @@ use lib.Dec.{eqb}
 use denote.Ref.{RefT, now}
 use borrow.Author.Tests.{le-ltb, le-leb, eq-eqb, ne-eqb}
 use Rattle.bits.specs.Choice.{pick, Fault, _given_, firstOf}
-use Rattle.bits.specs.Str.{sameBytes}
+use Rattle.bits.specs.Str.{Bits, sameBytes}
 use Rattle.bits.proofs.Choice.{hit}
 use Rattle.bits.proofs.Faults.{Clear, passed, done, Numbered, also, none, first-clear, clear-first, clear-append, first-append, first-append-clear, first-same, numbered-append}
 use Rattle.cipher.specs.Cipher.{Cipher}
-use Rattle.cipher.proofs.Laws.{sm4-width}
+use Rattle.cipher.specs.Ciphers.{cipherAt}
+use Rattle.cipher.proofs.Laws.{sm4-width, lawful-at}
 use Rattle.mac.specs.Padding.{Method, methodAt, blockCount}
-use Rattle.mac.specs.Tag.{bytesFor}
+use Rattle.mac.specs.Tag.{bitsOf, bytesFor}
 use Rattle.mac.specs.declared.Row.{Row}
 use Rattle.mac.specs.Algorithm.{algorithmAt, row}
 use Rattle.mac.proofs.Numbers.{by-number}
 use Rattle.mac.proofs.Padded.{padded-length, blockCount-is}
+use Rattle.mac.proofs.OneBlock.{tag-long}
+use Rattle.mac.proofs.TagBytes.{length-tagBytes}
 use Rattle.keys.specs.Given.{keysOf}
-use Rattle.settings.proofs.Sound.{settings-alone}
+use Rattle.settings.specs.Faults.{settingsRefusal}
+use Rattle.settings.proofs.Sound.{settings-alone, sound-size}
 use Rattle.settings.specs.Answers.{settingsOf}
 use Rattle.settings.specs.declared.Settings.{Settings}
 use Rattle.settings.specs.declared.Outcome.{Outcome}
 use Rattle.settings.specs.declared.Outcome.the-variants.{Accepted, Made, Yes, No, Refused}
 use Rattle.message.specs.Faults.{lengthWrong, tooManyBits, tooFewBlocks, tagLengthWrong, messageFaults}
-use Rattle.tag.specs.OneCall.{oneCallFaults, checkedBy, checkOf}
+use Rattle.tag.specs.OneCall.{oneCallFaults, tagAt, checkedBy, checkOf}
 use Rattle.fields.specs.Field.{lengthOf, value}
 use Rattle.fields.specs.Layout.{lotAt, sealAt, lotField, sealField, covered, layoutFaults}
 use Rattle.fields.proofs.Formed.{end-whole}
@@ -78,6 +82,22 @@ module _ (S : Settings) (n : ℕ) (least : 17 ≤ n) (most : n ≤ 1048576) wher
 
 pub agreement-numbered : (A : Agreement) (keys : List ℕ) → Numbered (agreementFaults A keys)
 agreement-numbered A keys = settings-alone A (length keys) (keysOf keys)
+
+-- the tag over the covered bytes that an agreement and keys give, in bits
+abbrev pub sealBits : Agreement → List ℕ → List ℕ → Bits
+sealBits A keys s = tagAt (settingsOf A) (keysOf keys) (covered s) (8 * length (covered s))
+
+-- it has as many as were agreed
+pub seal-bits : (A : Agreement) (keys s : List ℕ) → firstOf (agreementFaults A keys) ≡ 0 → length (sealBits A keys s) ≡ A .m
+unfolding tagAt settingsRefusal
+seal-bits A keys s sound =
+    let size = sound-size A (length keys) (keysOf keys) sound in
+    tag-long (cipherAt 1) (lawful-at 1) (algorithmAt (A .algorithm)) (methodAt (A .padding)) (keysOf keys) (A .m) (bitsOf (covered s) (8 * length (covered s))) (omega (arith, sm4-width, size))
+
+-- and the seal as many bytes as hold them
+pub seal-bytes : (A : Agreement) (keys s : List ℕ) → firstOf (agreementFaults A keys) ≡ 0 → length (sealDefined A s keys) ≡ bytesFor (A .m)
+unfolding sealDefined
+seal-bytes A keys s sound = length-tagBytes _ ∙ ap bytesFor (seal-bits A keys s sound)
 
 -- the faults that come after the fields and what the seal names
 abbrev pub sealFaultsUnder : Agreement → List ℕ → List ℕ → List Fault

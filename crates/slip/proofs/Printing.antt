@@ -14,13 +14,7 @@ use borrow.Author.Tests.{lt-ltb, le-ltb, eqb-true, eqb-false, ne-eqb}
 use Rattle.bits.specs.Choice.{pick, _given_, firstOf}
 use Rattle.bits.proofs.Choice.{miss}
 use Rattle.bits.proofs.Faults.{first-append, first-append-clear}
-use Rattle.cipher.specs.Ciphers.{cipherAt}
-use Rattle.cipher.proofs.Laws.{sm4-width, lawful-at}
-use Rattle.mac.specs.Padding.{methodAt}
-use Rattle.mac.specs.Algorithm.{algorithmAt}
-use Rattle.mac.specs.Tag.{bitsOf, bytesFor, tagBytes}
-use Rattle.mac.proofs.OneBlock.{tag-long}
-use Rattle.mac.proofs.TagBytes.{length-tagBytes}
+use Rattle.mac.specs.Tag.{bytesFor, tagBytes}
 use Rattle.keys.specs.Given.{keysOf}
 use Rattle.settings.specs.Faults.{settingsRefusal}
 use Rattle.settings.specs.Answers.{numberOf, settingsOf}
@@ -39,7 +33,7 @@ use Rattle.writing.proofs.Sayable.{says-numbered}
 use Rattle.slip.specs.Slip.{sealValue, sealDefined, sealCalls, agreementFaults}
 use Rattle.slip.specs.Printed.{sealedBy, sealHead, sealingFaults, writtenSlip, unwrittenSlip, writtenBy, putOf, writeUnder, slipOf, slipCalls, writeFaults, writeOf}
 use Rattle.slip.specs.declared.Written.{Written}
-use Rattle.slip.proofs.Judged.{only-ten, agreement-numbered}
+use Rattle.slip.proofs.Judged.{only-ten, agreement-numbered, seal-bytes}
 
 -- ---- lengths
 
@@ -110,16 +104,10 @@ module _ (A : Agreement) (keys front : List ℕ) (whole : covered front ≡ fron
   unfolding sealCalls
   calls-of = ap (λ (s : List ℕ). callsAt (settingsOf A) (keysOf keys) s (8 * length s)) (sym whole)
 
-  pub length-seal : no ≡ 0 → length (sealDefined A front keys) ≡ bytesFor (A .m)
-  unfolding tagAt
-  length-seal e =
-      ap length (sym seal-of) ∙ length-tagBytes _
-      ∙ ap bytesFor (tag-long (cipherAt 1) (lawful-at 1) (algorithmAt (A .algorithm)) (methodAt (A .padding)) (keysOf keys) (A .m) (bitsOf front (8 * length front)) (omega (arith, sm4-width, sound e .1)))
-
   module _ (b room : List ℕ) (long : length b ≡ 16) where
     -- the tag's bytes stand at the front of what `make` leaves
     tag-first : no ≡ 0 → take (bytesFor (A .m)) (tagBytes (tagAt (settingsOf A) (keysOf keys) front (8 * length front)) ++ drop (bytesFor (A .m)) b) ≡ sealDefined A front keys
-    tag-first e = ap (λ (t : List ℕ). take (bytesFor (A .m)) (t ++ drop (bytesFor (A .m)) b)) seal-of ∙ take-at (sealDefined A front keys) (drop (bytesFor (A .m)) b) (bytesFor (A .m)) (length-seal e)
+    tag-first e = ap (λ (t : List ℕ). take (bytesFor (A .m)) (t ++ drop (bytesFor (A .m)) b)) seal-of ∙ take-at (sealDefined A front keys) (drop (bytesFor (A .m)) b) (bytesFor (A .m)) (seal-bytes A keys front e)
 
     abbrev made : ℕ → Outcome × List ℕ
     made n = madeBy n (settingsOf A) (keysOf keys) front (8 * length front) b

@@ -29,15 +29,15 @@ use Rattle.writing.specs.Writing.{Says, saysFaults, coveredOf}
 use Rattle.writing.proofs.Sayable.{Sayable, sayable, unrefused, length-covered}
 use Rattle.writing.proofs.ReadBack.{saysOf, seal-back, covered-back, covered-all, says-back, lot-value-back, lot-length-back, lot-at-back, layout-back}
 use Rattle.writing.proofs.WriteBack.{sayable-again, covered-again}
-use Rattle.slip.specs.Slip.{sealValue, namedValues, agreedValues, tagNamed, sealDefined, sealCalls, agreementFaults, contentsOf, acceptedSlip, readOf}
+use Rattle.slip.specs.Slip.{sealValue, namedValues, tagNamed, sealDefined, sealCalls, agreementFaults, contentsOf, acceptedSlip, readOf}
 use Rattle.slip.specs.Printed.{sealedBy, slipOf, slipCalls}
 use Rattle.slip.specs.declared.Contents.{Contents}
 use Rattle.slip.specs.declared.Slip.{Slip}
-use Rattle.slip.proofs.Judged.{Believed, believed}
-use Rattle.slip.proofs.Whole.{Accepted, seal-is}
+use Rattle.slip.proofs.Judged.{seal-bytes, Believed, believed}
+use Rattle.slip.proofs.Whole.{Accepted, Names, seal-is}
 use Rattle.slip.proofs.Numbers.{accepted-is}
 use Rattle.slip.proofs.Agreed.{sealed-accepted}
-use Rattle.slip.proofs.Printing.{length-seal, length-sealed}
+use Rattle.slip.proofs.Printing.{length-sealed}
 
 -- ---- what is said
 
@@ -75,7 +75,7 @@ module _ (A : Agreement) (keys : List ℕ) (x : Says) (ok : Writable A keys x) w
   seal-printed = seal-back x (fieldOf sealRow (sealValue A seal))
 
   -- the seal names what was agreed
-  names-printed : namedValues (sealField printed) ≡ agreedValues A
+  names-printed : Names A printed
   unfolding namedValues
   names-printed = rw seal-printed refl
 
@@ -92,16 +92,13 @@ module _ (A : Agreement) (keys : List ℕ) (x : Says) (ok : Writable A keys x) w
   unfolding sealCalls slipCalls
   calls-same = ap (λ (c : List ℕ). callsAt (settingsOf A) (keysOf keys) c (8 * length c)) (covered-printed ∙ sym (covered-all x))
 
-  -- 22 to 53 bytes are covered, and the seal has ⌈m/8⌉
-  covered-few : (22 ≤ length (coveredOf x)) × (length (coveredOf x) ≤ 53)
-  covered-few = (omega (arith, length-covered x, said-well .lot-length), omega (arith, length-covered x, said-well .lot-length))
-
-  pub seal-bytes : length seal ≡ bytesFor (A .m)
-  seal-bytes = length-seal A keys (coveredOf x) (covered-all x) (covered-few .0) (covered-few .1) (ok .settings)
+  -- the seal has ⌈m/8⌉ bytes
+  seal-long : length seal ≡ bytesFor (A .m)
+  seal-long = seal-bytes A keys (coveredOf x) (ok .settings)
 
   pub length-printed : length printed ≡ 27 + length (x .lot) + bytesFor (A .m)
   unfolding slipOf
-  length-printed = omega (arith, length-sealed A (coveredOf x) seal, length-covered x, seal-bytes)
+  length-printed = omega (arith, length-sealed A (coveredOf x) seal, length-covered x, seal-long)
 
   -- every byte of the seal is one
   seal-fits : (i : ℕ) → getD (sealValue A seal) i 0 < 256
@@ -115,7 +112,7 @@ module _ (A : Agreement) (keys : List ℕ) (x : Says) (ok : Writable A keys x) w
   unfolding slipOf sealedBy settingsRefusal bytesFor
   layout-printed =
       let size = sound-size A (length keys) (keysOf keys) (ok .settings) in
-      let long = seal-bytes in
+      let long = seal-long in
       layout-back x said-well (sealValue A seal) (omega (arith, long, size)) (omega (arith, long, size)) (any-byte (sealValue A seal) seal-fits)
 
   pub accepted-printed : Accepted A keys printed

@@ -44,6 +44,10 @@ use Rattle.slip.proofs.Judged.{Believed, believed}
 abbrev pub Accepted : Agreement → List ℕ → List ℕ → Type 0
 Accepted A keys s = firstOf (slipFaults A keys s) ≡ 0
 
+-- its seal names what was agreed
+abbrev pub Names : Agreement → List ℕ → Type 0
+Names A s = namedValues (sealField s) ≡ agreedValues A
+
 -- ---- what is said
 
 pub record Whole (A : Agreement) (keys s : List ℕ) : Type 0 where
@@ -92,7 +96,7 @@ module _ (A : Agreement) (keys s : List ℕ) (yes : Accepted A keys s) where
       ok-long = omega (arith, value-long sealRow (sealField s) (good .fields .seal), good .fields .seal .allowed .low)
 
   -- which are the agreed ones
-  pub named-agreed : namedValues (sealField s) ≡ agreedValues A
+  pub named-agreed : Names A s
   unfolding agreementUnmet
   named-agreed = sameBytes-eq (namedValues (sealField s)) (agreedValues A) (not-false _ (good .names))
 

@@ -6,13 +6,22 @@ use crate::numbers;
 use crate::words;
 use words::print;
 
-// So many arguments are enough for every program; up to here their numbers can be added to.
+// A program's words begin no later than here, so that the numbers of its arguments can be added to.
 pub(crate) const LAST: usize = 65536;
 
 pub(crate) enum Agreed {
     Numbers(settings::Agreement),
     // One of the three is no number, and that was said.
     Unread,
+}
+
+// How many words came after the program's own name.
+pub(crate) fn count() -> usize {
+    let count = os::arg_count();
+    if count == 0 {
+        return 0;
+    }
+    count - 1
 }
 
 // Puts an argument into the room and gives its length. One that is too long fills the room, so a room has a byte more than is good.

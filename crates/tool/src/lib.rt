@@ -38,25 +38,20 @@ pub use printing::run_print;
 use words::print;
 
 pub fn run() {
-    let count = os::arg_count();
-    if count == 0 {
-        print_misuse();
-        return;
-    }
-    answer(libc::STDIN_FILENO, 1, count - 1);
+    answer(libc::STDIN_FILENO, 1, arguments::count());
 }
 
 // What slipcheck says where its words are so many arguments from this one on, and the keys are typed into this open file.
 pub fn answer(typed: i32, at: usize, count: usize) {
-    if arguments::LAST < at {
-        print_misuse();
-        return;
-    }
     if count == 1 {
         answer_one(at);
         return;
     }
     if count != 4 {
+        print_misuse();
+        return;
+    }
+    if arguments::LAST < at {
         print_misuse();
         return;
     }

@@ -32,25 +32,20 @@ use arguments::Agreed;
 use words::print;
 
 pub fn run_print() {
-    let count = os::arg_count();
-    if count == 0 {
-        print_misuse();
-        return;
-    }
-    answer_print(libc::STDIN_FILENO, 1, count - 1);
+    answer_print(libc::STDIN_FILENO, 1, arguments::count());
 }
 
 // What the program says where its words are so many arguments from this one on, and the keys are typed into this open file.
 pub fn answer_print(typed: i32, at: usize, count: usize) {
-    if arguments::LAST < at {
-        print_misuse();
-        return;
-    }
     if count == 1 {
         answer_one(at);
         return;
     }
     if count != 7 {
+        print_misuse();
+        return;
+    }
+    if arguments::LAST < at {
         print_misuse();
         return;
     }
