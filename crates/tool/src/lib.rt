@@ -105,7 +105,7 @@ pub fn answer_named(typed: i32, name: &[u8], at: usize) {
     }
     match arguments::agreement(at) {
         Agreed::Numbers(agreement) => check_file(typed, agreement, name),
-        Agreed::Unread => (),
+        Agreed::Unread => print_usage(),
     }
 }
 

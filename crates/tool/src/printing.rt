@@ -107,15 +107,8 @@ fn answer_six(typed: i32, name: &[u8], at: usize)
 fn print_slip(typed: i32, name: &[u8], date: &[u8], lot: &[u8], amount: &[u8], at: usize)
     requires { ⌜ at ≤ 65540 ⌝ }
 {
-    if name.len() == 0 {
-        print(b"error: the file's name is empty\n");
-        return;
-    }
-    if numbers::no_date(date) {
-        print(b"error: the date is not written as 2026-11-04\n");
-        return;
-    }
-    if arguments::is_no_number(b"the amount", amount) {
+    if is_miswritten(name, date, amount) {
+        print_usage();
         return;
     }
     match arguments::agreement(at) {
@@ -127,8 +120,21 @@ fn print_slip(typed: i32, name: &[u8], date: &[u8], lot: &[u8], amount: &[u8], a
             lot,
             numbers::number(amount),
         ),
-        Agreed::Unread => (),
+        Agreed::Unread => print_usage(),
     }
+}
+
+// Whether the file's name, the date or the amount is no such thing; if so, it is said.
+fn is_miswritten(name: &[u8], date: &[u8], amount: &[u8]) -> bool {
+    if name.len() == 0 {
+        print(b"error: the file's name is empty\n");
+        return true;
+    }
+    if numbers::no_date(date) {
+        print(b"error: the date is not written as 2026-11-04\n");
+        return true;
+    }
+    arguments::is_no_number(b"the amount", amount)
 }
 
 // What was asked for, with the keys that are typed.
