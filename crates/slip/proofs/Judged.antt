@@ -99,7 +99,12 @@ pub seal-bytes : (A : Agreement) (keys s : List ℕ) → firstOf (agreementFault
 unfolding sealDefined
 seal-bytes A keys s sound = length-tagBytes _ ∙ ap bytesFor (seal-bits A keys s sound)
 
--- the faults that come after the fields and what the seal names
+-- after the fields comes what the seal names: another agreement is 25
+pub unmet-first : (A : Agreement) (keys s : List ℕ) → firstOf (layoutFaults s) ≡ 0 → agreementUnmet A (sealField s) ≡ true → firstOf (slipFaults A keys s) ≡ 25
+unfolding slipFaults firstOf pick
+unmet-first A keys s clear unmet = first-append-clear (layoutFaults s) _ (layout-numbered s) clear ∙ rw unmet refl
+
+-- where it is met, the faults after it count
 abbrev pub sealFaultsUnder : Agreement → List ℕ → List ℕ → List Fault
 sealFaultsUnder A keys s = agreementFaults A keys ++ (10 given tagLengthWrong (A .m) (length (tagNamed s)) ∷ 30 given sealWrong A s keys ∷ [])
 
@@ -223,12 +228,8 @@ module _ (A : Agreement) (keys s : List ℕ) where
   layout-refused n e some = refused-by n (first-append (layoutFaults s) _ (λ z. some (e ∙ z)) ∙ sym e) some
 
   -- they were not, and the seal names something else than agreed
-  pub unmet-first : firstOf (layoutFaults s) ≡ 0 → agreementUnmet A (sealField s) ≡ true → firstOf (slipFaults A keys s) ≡ 25
-  unfolding slipFaults firstOf pick
-  unmet-first clear unmet = first-append-clear (layoutFaults s) _ (layout-numbered s) clear ∙ rw unmet refl
-
   pub unmet-refused : firstOf (layoutFaults s) ≡ 0 → agreementUnmet A (sealField s) ≡ true → refusedSlip 25 ≡ readOf A keys s
-  unmet-refused clear unmet = refused-by 25 (unmet-first clear unmet) (λ z. absurd (omega arith))
+  unmet-refused clear unmet = refused-by 25 (unmet-first A keys s clear unmet) (λ z. absurd (omega arith))
 
 -- ---- a slip that is not refused
 
