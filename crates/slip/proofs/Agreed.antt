@@ -17,13 +17,13 @@ use Rattle.bits.specs.Choice.{firstOf}
 use Rattle.bits.specs.Str.{sameBytes}
 use Rattle.bits.proofs.Faults.{passed, done, clear-first, all, with, every-first, first-append, first-append-clear}
 use Rattle.bits.proofs.Same.{sameBytes-true, sameBytes-eq}
-use Rattle.mac.specs.Tag.{bytesFor, tagBytes}
+use Rattle.mac.specs.Tag.{bytesFor}
 use Rattle.settings.specs.Faults.{settingsFaults}
 use Rattle.settings.specs.declared.Agreement.{Agreement}
 use Rattle.message.specs.Faults.{tagLengthWrong}
 use Rattle.fields.specs.Layout.{sealField, layoutFaults}
-use Rattle.slip.specs.Slip.{namedValues, agreedValues, agreementUnmet, tagNamed, sealDefined, sealWrong, agreementFaults, slipFaults, refusedSlip}
-use Rattle.slip.proofs.Judged.{agreement-numbered, sealBits, seal-bits, seal-bytes, sealFaultsUnder, met-first, unmet-first, unmet-refused, believed}
+use Rattle.slip.specs.Slip.{namedValues, agreedValues, agreementUnmet, tagNamed, sealBits, sealDefined, sealWrong, agreementFaults, slipFaults, refusedSlip}
+use Rattle.slip.proofs.Judged.{agreement-numbered, seal-bits, seal-bytes, sealFaultsUnder, met-first, unmet-first, unmet-refused, believed}
 use Rattle.slip.proofs.Whole.{Accepted, Names, tag-defined, named-agreed}
 use Rattle.slip.proofs.Numbers.{layout-every, Reading, keysRead, slipRead, read-number, read-accepted}
 use Rattle.slip.proofs.read.Kinds as read-k
@@ -33,9 +33,9 @@ use Rattle.slip.proofs.read.Kinds as read-k
 pub record Agrees (A : Agreement) (keys s : List ℕ) : Type 0 where
   -- algorithm, padding and m stand in the slip as they were agreed
   pub named : Names A s
-  -- the seal is a tag of the agreed number of bits, in as many bytes as hold them
-  pub bits : length (sealBits A keys s) ≡ A .m
-  pub seal : tagNamed s ≡ tagBytes (sealBits A keys s)
+  -- the seal is the tag that the agreement defines, of the agreed number of bits, in as many bytes as hold them
+  pub bits : length (sealBits A s keys) ≡ A .m
+  pub seal : tagNamed s ≡ sealDefined A s keys
   pub bytes : length (tagNamed s) ≡ bytesFor (A .m)
 
 -- two agreements with one algorithm, one padding and one m
@@ -45,7 +45,6 @@ SameValues A B = (A .algorithm ≡ B .algorithm) × ((A .padding ≡ B .padding)
 -- ---- a slip that is accepted
 
 pub accepted-agrees : (A : Agreement) (keys s : List ℕ) → Accepted A keys s → Agrees A keys s
-unfolding sealDefined
 accepted-agrees A keys s h =
     let sound = believed A keys s h .settings in
     let tag = tag-defined A keys s h in
@@ -74,8 +73,8 @@ module _ (A : Agreement) (s : List ℕ) where
 
 -- a slip in order that names what was agreed, under keys that no rule refuses, is accepted where its seal is the agreed settings' tag
 pub sealed-accepted : (A : Agreement) (keys s : List ℕ) → firstOf (layoutFaults s) ≡ 0 → firstOf (agreementFaults A keys) ≡ 0
-    → Names A s → tagNamed s ≡ tagBytes (sealBits A keys s) → Accepted A keys s
-unfolding tagLengthWrong sealWrong sealDefined
+    → Names A s → tagNamed s ≡ sealDefined A s keys → Accepted A keys s
+unfolding tagLengthWrong sealWrong
 sealed-accepted A keys s clear sound names tag =
     let length-right = ap not (eq-eqb _ _ (ap length tag ∙ seal-bytes A keys s sound)) in
     met-first A keys s clear (named-same A s names)
@@ -110,7 +109,7 @@ module _ (κs : Lfts 2) (a : Dens κs read-k.ps) (x : Reading κs a) where
   read-agrees good = accepted-agrees (a .0) (keysRead κs a) (slipRead κs a) (read-accepted κs a x good)
 
   pub read-sealed : firstOf (layoutFaults (slipRead κs a)) ≡ 0 → firstOf (agreementFaults (a .0) (keysRead κs a)) ≡ 0
-      → Names (a .0) (slipRead κs a) → tagNamed (slipRead κs a) ≡ tagBytes (sealBits (a .0) (keysRead κs a) (slipRead κs a)) → x .result .number ≡ 0
+      → Names (a .0) (slipRead κs a) → tagNamed (slipRead κs a) ≡ sealDefined (a .0) (slipRead κs a) (keysRead κs a) → x .result .number ≡ 0
   read-sealed clear sound names tag = read-number κs a x ∙ sealed-accepted (a .0) (keysRead κs a) (slipRead κs a) clear sound names tag
 
   pub read-25 : firstOf (layoutFaults (slipRead κs a)) ≡ 0 → ¬ Names (a .0) (slipRead κs a) → x .result ≡ refusedSlip 25

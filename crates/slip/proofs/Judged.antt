@@ -13,7 +13,7 @@ use lib.Dec.{eqb}
 use denote.Ref.{RefT, now}
 use borrow.Author.Tests.{le-ltb, le-leb, eq-eqb, ne-eqb}
 use Rattle.bits.specs.Choice.{pick, Fault, _given_, firstOf}
-use Rattle.bits.specs.Str.{Bits, sameBytes}
+use Rattle.bits.specs.Str.{sameBytes}
 use Rattle.bits.proofs.Choice.{hit}
 use Rattle.bits.proofs.Faults.{Clear, passed, done, Numbered, also, none, first-clear, clear-first, clear-append, first-append, first-append-clear, first-same, numbered-append}
 use Rattle.cipher.specs.Cipher.{Cipher}
@@ -42,7 +42,7 @@ use Rattle.fields.proofs.Formed.{end-whole}
 use Rattle.fields.proofs.Inside.{seal-there}
 use Rattle.fields.proofs.Laid.{LaidOut, laid-out, layout-numbered, covered-least, covered-most}
 use Rattle.slip.specs.Part.{lotPart, lotPartIn}
-use Rattle.slip.specs.Slip.{agreementUnmet, tagNamed, sealDefined, sealCalls, sealWrong, agreementFaults, slipFaults, contentsOf, acceptedSlip, refusedSlip, readOf}
+use Rattle.slip.specs.Slip.{agreementUnmet, tagNamed, sealBits, sealDefined, sealCalls, sealWrong, agreementFaults, slipFaults, contentsOf, acceptedSlip, refusedSlip, readOf}
 use Rattle.settings.specs.declared.Agreement.{Agreement}
 use Rattle.slip.specs.declared.Slip.{Slip}
 
@@ -83,12 +83,8 @@ module _ (S : Settings) (n : ℕ) (least : 17 ≤ n) (most : n ≤ 1048576) wher
 pub agreement-numbered : (A : Agreement) (keys : List ℕ) → Numbered (agreementFaults A keys)
 agreement-numbered A keys = settings-alone A (length keys) (keysOf keys)
 
--- the tag over the covered bytes that an agreement and keys give, in bits
-abbrev pub sealBits : Agreement → List ℕ → List ℕ → Bits
-sealBits A keys s = tagAt (settingsOf A) (keysOf keys) (covered s) (8 * length (covered s))
-
--- it has as many as were agreed
-pub seal-bits : (A : Agreement) (keys s : List ℕ) → firstOf (agreementFaults A keys) ≡ 0 → length (sealBits A keys s) ≡ A .m
+-- the tag has as many bits as were agreed
+pub seal-bits : (A : Agreement) (keys s : List ℕ) → firstOf (agreementFaults A keys) ≡ 0 → length (sealBits A s keys) ≡ A .m
 unfolding tagAt settingsRefusal
 seal-bits A keys s sound =
     let size = sound-size A (length keys) (keysOf keys) sound in
@@ -104,10 +100,11 @@ pub unmet-first : (A : Agreement) (keys s : List ℕ) → firstOf (layoutFaults 
 unfolding slipFaults firstOf pick
 unmet-first A keys s clear unmet = first-append-clear (layoutFaults s) _ (layout-numbered s) clear ∙ rw unmet refl
 
--- where it is met, the faults after it count
+-- the faults after it
 abbrev pub sealFaultsUnder : Agreement → List ℕ → List ℕ → List Fault
 sealFaultsUnder A keys s = agreementFaults A keys ++ (10 given tagLengthWrong (A .m) (length (tagNamed s)) ∷ 30 given sealWrong A s keys ∷ [])
 
+-- where the agreement is met, these count
 pub met-first : (A : Agreement) (keys s : List ℕ) → firstOf (layoutFaults s) ≡ 0 → agreementUnmet A (sealField s) ≡ false → firstOf (slipFaults A keys s) ≡ firstOf (sealFaultsUnder A keys s)
 unfolding slipFaults
 met-first A keys s clear met =

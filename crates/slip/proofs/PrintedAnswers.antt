@@ -222,23 +222,19 @@ module _ (κs : Lfts 3) (a : Dens κs write-k.ps) (x : Writing κs a) where
     -- ---- the first round trip: what was written, read under the same agreement and keys
 
     -- it is accepted, and gives date, amount, calls and the lot's place back
-    pub reads-back : readOf (a .0) (keysGiven κs a) (take (x .result .length) roomLeft) ≡ saidSlip (saysGiven κs a) (x .result .calls)
-    reads-back =
-        ap (readOf (a .0) (keysGiven κs a)) slip-first
+    pub reads-back : (A : Agreement) (keys s : List ℕ) → A ≡ a .0 → keys ≡ keysGiven κs a → s ≡ take (x .result .length) roomLeft → readOf A keys s ≡ saidSlip (saysGiven κs a) (x .result .calls)
+    reads-back A keys s agreed keyed lent =
+        (λ i. readOf (agreed i) (keyed i) ((lent ∙ slip-first) i))
         ∙ printed-read (a .0) (keysGiven κs a) (saysGiven κs a) ok ∙ ap (saidSlip (saysGiven κs a)) (sym write-calls)
 
     -- the lot's bytes are there
     pub lot-back : take (length (saysGiven κs a .lot)) (drop 14 (take (x .result .length) roomLeft)) ≡ saysGiven κs a .lot
     lot-back = ap (λ (s : List ℕ). take (length (saysGiven κs a .lot)) (drop 14 s)) slip-first ∙ lot-printed (a .0) (keysGiven κs a) (saysGiven κs a) ok
 
-    -- whatever was lent as the agreement, the keys and the slip
-    pub reads-lent : (A : Agreement) (keys s : List ℕ) → A ≡ a .0 → keys ≡ keysGiven κs a → s ≡ take (x .result .length) roomLeft → readOf A keys s ≡ saidSlip (saysGiven κs a) (x .result .calls)
-    reads-lent A keys s agreed keyed lent = (λ i. readOf (agreed i) (keyed i) (lent i)) ∙ reads-back
-
     module _ (λs : Lfts 2) (b : Dens λs read-k.ps) (y : Reading λs b)
         (agreed : b .0 ≡ a .0) (keyed : keysRead λs b ≡ keysGiven κs a) (lent : slipRead λs b ≡ take (x .result .length) roomLeft) where
       pub written-read : y .result ≡ saidSlip (saysGiven κs a) (x .result .calls)
-      written-read = y .ensures ∙ reads-lent (b .0) (keysRead λs b) (slipRead λs b) agreed keyed lent
+      written-read = y .ensures ∙ reads-back (b .0) (keysRead λs b) (slipRead λs b) agreed keyed lent
 
     module _ (λs : Lfts 2) (b : Dens λs lot-k.ps) (z : Allowed lot-k.ps lot-k.r lot.Learnt λs b)
         (agreed : b .0 ≡ a .0) (keyed : b .1 .0 .now ≡ keysGiven κs a) (lent : b .1 .1 .0 .now ≡ take (x .result .length) roomLeft) where
@@ -246,7 +242,7 @@ module _ (κs : Lfts 3) (a : Dens κs write-k.ps) (x : Writing κs a) where
       pub written-lot : (ptr (z .result) ≡ (ptr (b .1 .1 .0) .0, 14 + ptr (b .1 .1 .0) .1)) × (now (z .result) ≡ saysGiven κs a .lot)
       written-lot =
           let slip = b .1 .1 .0 in
-          let e : seen (z .result) ≡ partOf slip 14 (length (saysGiven κs a .lot)) = z .ensures ∙ ap (λ (r : Slip). lotPart slip (r .contents)) (reads-lent (b .0) (b .1 .0 .now) (slip .now) agreed keyed lent) in
+          let e : seen (z .result) ≡ partOf slip 14 (length (saysGiven κs a .lot)) = z .ensures ∙ ap (λ (r : Slip). lotPart slip (r .contents)) (reads-back (b .0) (b .1 .0 .now) (slip .now) agreed keyed lent) in
           (ap (λ (r : (ℕ × ℕ) × List ℕ). r .0) e, ap (λ (r : (ℕ × ℕ) × List ℕ). r .1) e ∙ ap (λ (s : List ℕ). take (length (saysGiven κs a .lot)) (drop 14 s)) lent ∙ lot-back)
 
 -- ---- the second round trip: a slip that was accepted, written again

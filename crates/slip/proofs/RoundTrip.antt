@@ -5,7 +5,7 @@
 -- Assumes nothing.
 use mathlib.Core.Path.{_≡_, refl, sym, ap, ap₂, _∙_}
 use mathlib.Core.List.{List, [], _++_, append-nil}
-use Prim.Native.Nat.{ℕ, zero, suc, _+_, _*_, _≤_, _<_}
+use Prim.Native.Nat.{ℕ, zero, suc, _+_, _*_, _<_}
 use native.Mathlib.Omega.{arith}
 use lib.ListN.{length, take, drop, getD}
 use lib.Seq.{drop-drop}
@@ -22,7 +22,6 @@ use Rattle.fields.specs.Format.{sealRow}
 use Rattle.fields.specs.Field.{lengthOf, value, fieldOf}
 use Rattle.fields.specs.Layout.{lotAt, lotField, sealField, covered, layoutFaults}
 use Rattle.fields.proofs.Formed.{any-byte}
-use Rattle.fields.proofs.Laid.{LaidOut}
 use Rattle.fields.proofs.Written.{written-value}
 use Rattle.fields.proofs.Whole.{covered-then-seal}
 use Rattle.writing.specs.Writing.{Says, saysFaults, coveredOf}
@@ -116,7 +115,6 @@ module _ (A : Agreement) (keys : List ℕ) (x : Says) (ok : Writable A keys x) w
       layout-back x said-well (sealValue A seal) (omega (arith, long, size)) (omega (arith, long, size)) (any-byte (sealValue A seal) seal-fits)
 
   pub accepted-printed : Accepted A keys printed
-  unfolding sealDefined
   accepted-printed = sealed-accepted A keys printed layout-printed (ok .settings) names-printed (tag-printed ∙ sym seal-same)
 
   contents-printed : contentsOf printed ≡ saidSlip x 0 .contents

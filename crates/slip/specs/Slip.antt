@@ -7,7 +7,7 @@ use Prim.Native.Nat.{ℕ, _+_, _*_}
 use lib.ListN.{length, drop, getD}
 use lib.Dec.{eqb}
 use Rattle.bits.specs.Choice.{pick, Fault, _given_, firstOf}
-use Rattle.bits.specs.Str.{sameBytes}
+use Rattle.bits.specs.Str.{Bits, sameBytes}
 use Rattle.mac.specs.Tag.{tagBytes}
 use Rattle.keys.specs.Given.{keysOf}
 use Rattle.settings.specs.Faults.{settingsFaults}
@@ -23,17 +23,17 @@ use Rattle.slip.specs.declared.Slip.{Slip}
 
 -- ---- field 7F: algorithm, padding, m (a byte each), then the tag
 
-abbrev pub sealValue : Agreement → List ℕ → List ℕ
-sealValue A tag = A .algorithm ∷ A .padding ∷ A .m ∷ tag
-
--- the three values that a seal field names, and the three that were agreed
-unfoldable pub namedValues : List ℕ → List ℕ
-namedValues field = getD field 3 0 ∷ getD field 4 0 ∷ getD field 5 0 ∷ []
-
+-- the three values that were agreed, and the three that a seal field names
 abbrev pub agreedValues : Agreement → List ℕ
 agreedValues A = A .algorithm ∷ A .padding ∷ A .m ∷ []
 
--- 25: the seal names another algorithm, padding or m than agreed (02 §2)
+unfoldable pub namedValues : List ℕ → List ℕ
+namedValues field = getD field 3 0 ∷ getD field 4 0 ∷ getD field 5 0 ∷ []
+
+abbrev pub sealValue : Agreement → List ℕ → List ℕ
+sealValue A tag = agreedValues A ++ tag
+
+-- 25: the seal names another algorithm, padding or m than agreed, as whole numbers (02 §2)
 unfoldable pub agreementUnmet : Agreement → List ℕ → Bool
 agreementUnmet A field = not (sameBytes (namedValues field) (agreedValues A))
 
@@ -42,9 +42,12 @@ tagNamed s = drop 3 (value (sealField s))
 
 -- ---- the seal covers all bytes before field 7F
 
--- the seal that an agreement and keys give
+-- the tag of these bytes that an agreement and keys give, and the seal: its bits in bytes
+abbrev pub sealBits : Agreement → List ℕ → List ℕ → Bits
+sealBits A s keys = tagAt (settingsOf A) (keysOf keys) (covered s) (8 * length (covered s))
+
 unfoldable pub sealDefined : Agreement → List ℕ → List ℕ → List ℕ
-sealDefined A s keys = tagBytes (tagAt (settingsOf A) (keysOf keys) (covered s) (8 * length (covered s)))
+sealDefined A s keys = tagBytes (sealBits A s keys)
 
 unfoldable pub sealCalls : Agreement → List ℕ → List ℕ → ℕ
 sealCalls A s keys = callsAt (settingsOf A) (keysOf keys) (covered s) (8 * length (covered s))

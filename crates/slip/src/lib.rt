@@ -2,10 +2,10 @@
 // found once. What the slip names is compared with the agreement and used for nothing else: the seal is checked under the agreement.
 // And a lot slip written: nothing is put into the room before the last test.
 ghost use mathlib.Core.Path.{_≡_};
+ghost use mathlib.Core.Bool.{false};
 ghost use Prim.Native.Nat.{_≤_, _<_};
 ghost use lib.ListN.{length, take};
 ghost use Rattle.bits.specs.Choice.{firstOf};
-ghost use mathlib.Core.Bool.{false};
 ghost use Rattle.fields.specs.Layout.{placesOf, sealField, covered, layoutFaults};
 ghost use Rattle.slip.specs.Slip.{agreementUnmet, contentsOf, refusedSlip, readOf};
 ghost use Rattle.slip.specs.Part.{seen, lotPart, lotPartIn};

@@ -22,7 +22,7 @@ use Rattle.slip.proofs.Whole.{Accepted}
 use Rattle.slip.proofs.RoundTrip.{saidSlip}
 use Rattle.slip.proofs.Numbers.{refused-is, keysRead, slipRead}
 use Rattle.slip.proofs.Agreed.{Agrees, accepted-agrees}
-use Rattle.slip.proofs.PrintedAnswers.{keysGiven, saysGiven, roomGiven, roomLeft, unwrittenOf, writtenAs, write-number, reads-lent, lot-back, Again, writes-again}
+use Rattle.slip.proofs.PrintedAnswers.{keysGiven, saysGiven, roomGiven, roomLeft, unwrittenOf, writtenAs, write-number, reads-back, lot-back, Again, writes-again}
 use Rattle.slip.proofs.PrintedAnswers as slip-answers
 use Rattle.slipseal.specs.declared.Slip.{Slip}
 use Rattle.slipseal.specs.Border.{toldSlip}
@@ -50,7 +50,7 @@ module _ (κs : Lfts 3) (a : Dens κs write-k.ps) (x : Written κs a) where
   module _ (good : x .result .number ≡ 0) (λs : Lfts 2) (b : Dens λs read-k.ps) (y : Read λs b)
       (agreed : b .0 ≡ a .0) (keyed : keysRead λs b ≡ keysGiven κs a) (lent : slipRead λs b ≡ take (x .result .length) (roomLeft κs a x)) where
     pub c-written-read : y .result ≡ toldSlip (saidSlip (saysGiven κs a) (x .result .calls))
-    c-written-read = y .ensures ∙ ap toldSlip (reads-lent κs a x good (b .0) (keysRead λs b) (slipRead λs b) agreed keyed lent)
+    c-written-read = y .ensures ∙ ap toldSlip (reads-back κs a x good (b .0) (keysRead λs b) (slipRead λs b) agreed keyed lent)
 
     -- and the lot that it names is the lot, byte for byte
     pub c-written-lot : take (y .result .«lot_len») (drop (y .result .«lot_at») (slipRead λs b)) ≡ saysGiven κs a .lot
