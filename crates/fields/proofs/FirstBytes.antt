@@ -54,14 +54,14 @@ pub record Alike (n : ℕ) (f g : List ℕ) : Type 0 where
   pub same : take n f ≡ take n g
 
 module _ (n : ℕ) (f g : List ℕ) (alike : Alike n f g) where
-  byte-alike : (i : ℕ) → i < n → getD f i 0 ≡ getD g i 0
+  pub byte-alike : (i : ℕ) → i < n → getD f i 0 ≡ getD g i 0
   byte-alike i h = sym (getD-take n f i 0 h) ∙ ap (λ (l : List ℕ). getD l i 0) (alike .same) ∙ getD-take n g i 0 h
 
-  bytes-alike : (i : ℕ) → i + 1 < n → twoBytes f i ≡ twoBytes g i
+  pub bytes-alike : (i : ℕ) → i + 1 < n → twoBytes f i ≡ twoBytes g i
   unfolding twoBytes
   bytes-alike i h = rw (byte-alike i (omega arith), byte-alike (i + 1) h) refl
 
-  digits-alike : (i : ℕ) → i + 1 < n → twoDigits f i ≡ twoDigits g i
+  pub digits-alike : (i : ℕ) → i + 1 < n → twoDigits f i ≡ twoDigits g i
   unfolding twoDigits digitAt
   digits-alike i h = rw (byte-alike i (omega arith), byte-alike (i + 1) h) refl
 
@@ -75,11 +75,11 @@ module _ (n : ℕ) (f g : List ℕ) (alike : Alike n f g) where
 
   -- ---- a field
 
-  length-alike : 3 ≤ n → lengthOf f ≡ lengthOf g
+  pub length-alike : 3 ≤ n → lengthOf f ≡ lengthOf g
   unfolding lengthOf
   length-alike h = bytes-alike 1 (omega arith)
 
-  value-alike : 3 + lengthOf f ≤ n → value f ≡ value g
+  pub value-alike : 3 + lengthOf f ≤ n → value f ≡ value g
   unfolding value
   value-alike h = from-alike 3 (lengthOf f) h .same ∙ ap (λ (k : ℕ). take k (drop 3 g)) (length-alike (omega arith))
 

@@ -4,5 +4,6 @@ pub mod Laid
 pub mod Whole
 pub mod Written
 pub mod FirstBytes
+pub mod Beginnings
 pub mod Dates
 pub mod Unique

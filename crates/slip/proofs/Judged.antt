@@ -265,7 +265,7 @@ unfolding pick acceptedSlip contentsOf refusedSlip
 lot-fits A keys s calls zero e = lot-in s (believed A keys s e .fields)
 lot-fits A keys s calls (suc n) e = rw (ne-eqb (suc n) 0 (λ z. absurd (omega arith))) (omega arith)
 
-lot-inside : (A : Agreement) (keys s : List ℕ) → readOf A keys s .contents .«lot_at» + readOf A keys s .contents .«lot_len» ≤ length s
+pub lot-inside : (A : Agreement) (keys s : List ℕ) → readOf A keys s .contents .«lot_at» + readOf A keys s .contents .«lot_len» ≤ length s
 unfolding readOf
 lot-inside A keys s = lot-fits A keys s _ _ refl
 

@@ -1,9 +1,11 @@
 pub mod Judged
+pub mod Gathering
 pub mod Whole
 pub mod Numbers
 pub mod Agreed
 pub mod OneCheck
 pub mod Enough
+pub mod OddLengths
 pub mod Borders
 pub mod Printing
 pub mod RoundTrip

@@ -94,6 +94,10 @@ module _ (s : List ℕ) (calls : ℕ) where
   chosen-calls true n = refl
   chosen-calls false n = refl
 
+pub number-is : (A : Agreement) (keys s : List ℕ) → readOf A keys s .number ≡ firstOf (slipFaults A keys s)
+unfolding readOf
+number-is A keys s = chosen-number s _ _
+
 -- ---- of every answer of the code
 
 abbrev pub Reading : (κs : Lfts 2) → Dens κs read-k.ps → Type 0
@@ -113,8 +117,7 @@ module _ (κs : Lfts 2) (a : Dens κs read-k.ps) (x : Reading κs a) where
   fault = firstOf (slipFaults (a .0) (keysRead κs a) (slipRead κs a))
 
   pub read-number : x .result .number ≡ fault
-  unfolding readOf
-  read-number = ap (λ (r : Slip). r .number) (x .ensures) ∙ chosen-number (slipRead κs a) _ fault
+  read-number = ap (λ (r : Slip). r .number) (x .ensures) ∙ number-is (a .0) (keysRead κs a) (slipRead κs a)
 
   pub read-calls : x .result .calls ≡ pick (eqb fault 0) (sealCalls (a .0) (slipRead κs a) (keysRead κs a)) 0
   unfolding readOf

@@ -1,3 +1,4 @@
 pub mod Slip
 pub mod Part
+pub mod Gathering
 pub mod Printed

@@ -1,14 +1,17 @@
 // A lot slip, read whole under what was agreed and the caller's keys: believed, or refused with its number. Where its fields stand is
 // found once. What the slip names is compared with the agreement and used for nothing else: the seal is checked under the agreement.
-// And a lot slip written: nothing is put into the room before the last test.
+// A slip that comes in odd lengths is gathered first, and read once. And a lot slip written: nothing is put into the room before the
+// last test.
 ghost use mathlib.Core.Path.{_≡_};
 ghost use mathlib.Core.Bool.{false};
-ghost use Prim.Native.Nat.{_≤_, _<_};
-ghost use lib.ListN.{length, take};
+ghost use mathlib.Core.List.{[], _++_};
+ghost use Prim.Native.Nat.{_+_, _≤_, _<_};
+ghost use lib.ListN.{length, take, drop};
 ghost use Rattle.bits.specs.Choice.{firstOf};
 ghost use Rattle.fields.specs.Layout.{placesOf, sealField, covered, layoutFaults};
 ghost use Rattle.slip.specs.Slip.{agreementUnmet, contentsOf, refusedSlip, readOf};
 ghost use Rattle.slip.specs.Part.{seen, lotPart, lotPartIn};
+ghost use Rattle.slip.specs.Gathering.{most, held, gatheredOf, addOf};
 ghost use Rattle.mac.specs.Tag.{bytesFor};
 ghost use Rattle.writing.specs.Writing.{said};
 ghost use Rattle.slip.specs.Printed.{sealedBy, unwrittenSlip, sealHead, putOf, writeUnder, writeOf};
@@ -137,6 +140,79 @@ pub fn lot<'a>(agreement: settings::Agreement, keys: &[u8], slip: &'a [u8]) -> &
     let read = read(agreement, keys, slip);
     let contents = read.contents;
     lot_in(slip, contents)
+}
+
+// ---- gathered
+
+// The bytes of a slip that came so far, and zeros after them. Only the first 76 can matter, so no more are kept; the last four places
+// stay zero and are not read, and a count over 76 is read as 76. A record of zeros is empty.
+#[repr(C)]
+pub struct Gathered {
+    pub count: usize,
+    pub bytes: [u8; 80],
+}
+
+// The first so many bytes, or all where there are fewer.
+fn first(s: &[u8], count: usize) -> &[u8]
+    ensures { λ r. ⌜ now r ≡ take count (now (s .entry)) ⌝ }
+{
+    if s.len() < count {
+        return s;
+    }
+    &s[..count]
+}
+
+// The bytes that a record of these bytes and this count holds.
+fn held(bytes: &[u8], count: usize) -> &[u8]
+    ensures { λ r. ⌜ now r ≡ take count (take most (now (bytes .entry))) ⌝ }
+{
+    first(first(bytes, 76), count)
+}
+
+// Puts the bytes of one part, and those of another after them, into the room.
+fn put_both(a: &[u8], b: &[u8], room: &mut [u8])
+    requires { ⌜ length (now a) + length (now b) ≤ length (now room) ⌝ }
+    ensures { λ _. ⌜ now (room .exit) ≡ now (a .entry) ++ (now (b .entry) ++ drop (length (now (a .entry)) + length (now (b .entry))) (now (room .entry))) ⌝ }
+{
+    let at = a.len();
+    block::put_part(a, room);
+    block::put_part(b, &mut room[at..]);
+}
+
+impl Gathered {
+    // Nothing has come yet.
+    pub fn none() -> Gathered
+        ensures { λ r. ⌜ r ≡ gatheredOf [] ⌝ }
+    {
+        Gathered {
+            count: 0,
+            bytes: [0u8; 80],
+        }
+    }
+
+    // One more read has come, of any length. Nothing is refused here: the slip is judged once, when it is read.
+    pub fn add(self, more: &[u8]) -> Gathered
+        ensures { λ r. ⌜ r ≡ addOf self (now (more .entry)) ⌝ }
+    {
+        let before = self.bytes;
+        let kept = held(&before, self.count);
+        let at = kept.len();
+        let new = first(more, 76 - at);
+        let mut bytes = [0u8; 80];
+        put_both(kept, new, &mut bytes);
+        Gathered {
+            count: at + new.len(),
+            bytes,
+        }
+    }
+
+    // Reads the slip that was gathered, under what was agreed and keys: to be asked once, when no more bytes will come.
+    pub fn read(self, agreement: settings::Agreement, keys: &[u8]) -> Slip
+        ensures { λ r. ⌜ r ≡ readOf agreement (now (keys .entry)) (held self) ⌝ }
+    {
+        let bytes = self.bytes;
+        read(agreement, keys, held(&bytes, self.count))
+    }
 }
 
 // ---- written

@@ -1,4 +1,5 @@
 pub mod Crossing
 pub mod Runs
 pub mod Slips
+pub mod OddLengths
 pub mod Unique

@@ -3,24 +3,17 @@
 -- that slip (`c-read-written`); an accepted slip names what was agreed (`c-read-agrees`); a refused call leaves the room
 -- (`write-untouched`). `slipseal_write` keeps the contract of `slip::write` word for word, so its answers are that function's.
 -- Assumes nothing.
-use mathlib.Core.Path.{_≡_, refl, sym, ap, _∙_, subst}
-use mathlib.Core.Bool.{Bool, true, false}
+use mathlib.Core.Path.{_≡_, sym, ap, _∙_, subst}
 use mathlib.Core.List.{List}
 use Prim.Native.Nat.{ℕ}
-use lib.Dec.{eqb}
 use lib.ListN.{length, take, drop}
 use contract.Lifetimes.{Lfts}
-use borrow.Author.Tests.{eqb-true, eqb-false}
 use borrow.Fn.Kinds.{Dens}
-use Rattle.bits.specs.Choice.{firstOf}
 use Rattle.bits.specs.Once.{Allowed}
-use Rattle.settings.specs.declared.Agreement.{Agreement}
-use Rattle.slip.specs.Slip.{slipFaults, refusedSlip, readOf}
 use Rattle.slip.specs.declared.Contents.{Contents}
-use Rattle.slip.specs.declared.Slip as slip
 use Rattle.slip.proofs.Whole.{Accepted}
 use Rattle.slip.proofs.RoundTrip.{saidSlip}
-use Rattle.slip.proofs.Numbers.{refused-is, keysRead, slipRead}
+use Rattle.slip.proofs.Numbers.{number-is, keysRead, slipRead}
 use Rattle.slip.proofs.Agreed.{Agrees, accepted-agrees}
 use Rattle.slip.proofs.PrintedAnswers.{keysGiven, saysGiven, roomGiven, roomLeft, unwrittenOf, writtenAs, write-number, reads-back, lot-back, Again, writes-again}
 use Rattle.slip.proofs.PrintedAnswers as slip-answers
@@ -59,19 +52,10 @@ module _ (κs : Lfts 3) (a : Dens κs write-k.ps) (x : Written κs a) where
         ap (λ (r : Slip). take (r .«lot_len») (drop (r .«lot_at») (slipRead λs b))) c-written-read
         ∙ ap (λ (s : List ℕ). take (length (saysGiven κs a .lot)) (drop 14 s)) lent ∙ lot-back κs a x good
 
--- a slip whose number is 0 is accepted
-accepted-of : (A : Agreement) (keys s : List ℕ) → readOf A keys s .number ≡ 0 → Accepted A keys s
-unfolding refusedSlip
-accepted-of A keys s e = go (eqb (firstOf (slipFaults A keys s)) 0) refl
-  where
-    go : (b : Bool) → eqb (firstOf (slipFaults A keys s)) 0 ≡ b → Accepted A keys s
-    go true h = eqb-true (firstOf (slipFaults A keys s)) 0 h
-    go false h = sym (ap (λ (r : slip.Slip). r .number) (refused-is A keys s (eqb-false (firstOf (slipFaults A keys s)) 0 h))) ∙ e
-
 module _ (λs : Lfts 2) (b : Dens λs read-k.ps) (y : Read λs b) (good : y .result .number ≡ 0) where
   c-accepted : Accepted (b .0) (keysRead λs b) (slipRead λs b)
   unfolding toldSlip
-  c-accepted = accepted-of (b .0) (keysRead λs b) (slipRead λs b) (sym (ap (λ (r : Slip). r .number) (y .ensures)) ∙ good)
+  c-accepted = sym (ap (λ (r : Slip). r .number) (y .ensures) ∙ number-is (b .0) (keysRead λs b) (slipRead λs b)) ∙ good
 
   -- an accepted slip names what was agreed, and its seal has so many bits
   pub c-read-agrees : Agrees (b .0) (keysRead λs b) (slipRead λs b)

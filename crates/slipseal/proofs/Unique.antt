@@ -15,6 +15,10 @@ use Rattle.slipseal.proofs.slipseal_finish.Kinds as finish-k
 use Rattle.slipseal.proofs.slipseal_finish.Reads as slipseal-finish
 use Rattle.slipseal.proofs.slipseal_read.Kinds as read-k
 use Rattle.slipseal.proofs.slipseal_read.Reads as slipseal-read
+use Rattle.slipseal.proofs.slipseal_gather.Kinds as gather-k
+use Rattle.slipseal.proofs.slipseal_gather.Reads as slipseal-gather
+use Rattle.slipseal.proofs.slipseal_read_gathered.Kinds as read-gathered-k
+use Rattle.slipseal.proofs.slipseal_read_gathered.Reads as slipseal-read-gathered
 use Rattle.slipseal.proofs.slipseal_write.Kinds as write-k
 use Rattle.slipseal.proofs.slipseal_write.Reads as slipseal-write
 
@@ -35,6 +39,12 @@ finish-unique κs a g p x y = let e = same (x .ensures) (y .ensures) in (λ i. e
 
 pub read-unique : Unique read-k.ps read-k.r slipseal-read.Asked slipseal-read.Learnt
 read-unique κs a g p x y = (same (x .ensures) (y .ensures), refl)
+
+pub gather-unique : Unique gather-k.ps gather-k.r slipseal-gather.Asked slipseal-gather.Learnt
+gather-unique κs a g p x y = (same (x .ensures) (y .ensures), refl)
+
+pub read-gathered-unique : Unique read-gathered-k.ps read-gathered-k.r slipseal-read-gathered.Asked slipseal-read-gathered.Learnt
+read-gathered-unique κs a g p x y = (same (x .ensures) (y .ensures), refl)
 
 pub write-unique : Unique write-k.ps write-k.r slipseal-write.Asked slipseal-write.Learnt
 write-unique κs a g p x y = let e = same (x .ensures) (y .ensures) in (λ i. e i .0, λ i. (tt, (tt, (tt, (tt, (tt, (tt, (tt, (e i .1, tt)))))))))

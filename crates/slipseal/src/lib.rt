@@ -4,6 +4,7 @@ ghost use mathlib.Core.Path.{_≡_};
 ghost use Rattle.tag.specs.OneCall.{makeOf, checkOf};
 ghost use Rattle.session.specs.Calls.{startOf, pieceOf, finishOf};
 ghost use Rattle.slip.specs.Slip.{readOf};
+ghost use Rattle.slip.specs.Gathering.{held, addOf};
 ghost use Rattle.slip.specs.Printed.{writeOf};
 ghost use Rattle.writing.specs.Writing.{said};
 ghost use Rattle.slipseal.specs.Border.{toldOf, toldMake, toldSlip, phaseFrom, phaseNumber, partNumber, inward, outward, handedOut, handedBack, finishedBack};
@@ -265,6 +266,24 @@ pub extern "C" fn slipseal_read(agreement: settings::Agreement, keys: &[u8], sli
     ensures { λ r. ⌜ r ≡ toldSlip (readOf agreement (now (keys .entry)) (now (slip .entry))) ⌝ }
 {
     told_slip(slip::read(agreement, keys, slip))
+}
+
+#[no_mangle]
+pub extern "C" fn slipseal_gather(came: slip::Gathered, bytes: &[u8]) -> slip::Gathered
+    ensures { λ r. ⌜ r ≡ addOf came (now (bytes .entry)) ⌝ }
+{
+    came.add(bytes)
+}
+
+#[no_mangle]
+pub extern "C" fn slipseal_read_gathered(
+    agreement: settings::Agreement,
+    keys: &[u8],
+    came: slip::Gathered,
+) -> Slip
+    ensures { λ r. ⌜ r ≡ toldSlip (readOf agreement (now (keys .entry)) (held came)) ⌝ }
+{
+    told_slip(came.read(agreement, keys))
 }
 
 #[no_mangle]
