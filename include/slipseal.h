@@ -116,6 +116,14 @@ typedef struct slipseal_slip {
     uint64_t lot_len;
 } slipseal_slip;
 
+/* A slip that comes in odd lengths, gathered: the bytes that came so far, and their count. It goes into each call by value and the
+ * next one comes back; a record of zeros is the empty one. A slip has 75 bytes at most, so only the first 76 that come can matter,
+ * and no more are kept: the 76th tells that there are too many. Any content is answered; a count over 76 is read as 76. */
+typedef struct slipseal_gathered {
+    uint64_t count;    /* 0 to 76 */
+    uint8_t bytes[80]; /* the bytes, then zeros; the last four are no part of the slip, stay zero and are not read */
+} slipseal_gathered;
+
 /* What is told of a slip that was written. A refusal has its number and zeros. */
 typedef struct slipseal_written {
     uint64_t number; /* 0 for a written slip, else the refusal's */
@@ -153,6 +161,7 @@ slipseal_step slipseal_finish(slipseal_session session, uint8_t *tag, size_t tag
 /* Reads a lot slip under keys and what was agreed with its supplier. The agreement is handed in and never taken from the slip, and
  * the seal is checked under it. Do not copy the three values that a slip names into the agreement: whoever makes the slip would
  * choose how it is checked, and a slip that names m = 1 passes with one of two tags.
+ * The bytes are the whole slip. Where it comes in several reads, gather them first, with slipseal_gather.
  * Refusals, in this order: at each of the fields 01, 02, 03 and 7F, 20 for under 3 bytes left, 21 for another tag, 22 for a length
  * that is not allowed, 20 for a value cut short, 22 for a wrong value, 23 for no real date of 2000 to 2099; then 24 for bytes after
  * the seal; 25 where the seal names another algorithm, padding or m than agreed, however well its tag fits; 1 to 6 for the
@@ -161,6 +170,34 @@ slipseal_step slipseal_finish(slipseal_session session, uint8_t *tag, size_t tag
  * accepted slips with the same bytes before field 7F are one slip. */
 slipseal_slip slipseal_read(slipseal_agreement agreement, const uint8_t *keys, size_t keys_len, const uint8_t *slip,
                             size_t slip_len);
+
+/* Gives a gathered slip its next bytes, those of one read, of any length, none included. Nothing is refused here: the slip is
+ * judged once, when it is read. What comes back has a count of at most 76 and zeros past it, whatever stood there in the record
+ * that came in. */
+slipseal_gathered slipseal_gather(slipseal_gathered gathered, const uint8_t *bytes, size_t len);
+
+/* Reads a gathered slip under keys and what was agreed with its supplier. It answers as slipseal_read does for all bytes that came,
+ * joined, in every field and however they were cut; the lot is the lot_len bytes at gathered.bytes + lot_at.
+ * Ask once, at the end of input. Until then nothing tells whether more bytes will come: a proper beginning of an accepted slip gets
+ * 20, bytes after an accepted slip turn the yes into 24, and other bytes get their own refusal. A scanner's driver would write:
+ *
+ *     slipseal_gathered gathered = {0};
+ *     uint8_t bytes[64];
+ *     ssize_t count;
+ *     while ((count = read(scanner, bytes, sizeof bytes)) != 0) {
+ *         if (count > 0) {
+ *             gathered = slipseal_gather(gathered, bytes, (size_t)count);
+ *         } else if (errno != EINTR) {
+ *             return -1;
+ *         }
+ *     }
+ *     *slip = slipseal_read_gathered(agreement, keys, keys_len, gathered);
+ *     return 0;
+ *
+ * A count of 0 alone is the end of input. A count of -1 is an error that the caller handles: here EINTR is tried again, and after
+ * any other the slip is not asked for, so that nothing is believed of the bottle. */
+slipseal_slip slipseal_read_gathered(slipseal_agreement agreement, const uint8_t *keys, size_t keys_len,
+                                     slipseal_gathered gathered);
 
 /* Writes a lot slip: the fields 01, 02, 03 and 7F one after the other, 27 + lot_len + (m + 7) / 8 bytes in all. Room of 75 bytes is
  * enough for any slip; the lot must not lie in it. Refusals, in this order: 22 where the lot is not 1 to 32 bytes, each 21 to 7E, or

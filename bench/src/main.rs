@@ -18,6 +18,8 @@ use work::Tagged;
 const ROUNDS: usize = 9;
 const KEY: &str = "0123456789ABCDEFFEDCBA9876543210";
 const SLIP: &str = "01000832303236313130340200024137030004000001F47F000B050440A47A9299C7B8456C";
+/// Where the slip is cut into two reads.
+const CUT: usize = 20;
 
 /// Stops the run where two answers differ.
 fn agree<T: PartialEq + Debug>(what: &str, answer: T, expected: T) {
@@ -67,6 +69,8 @@ fn main() {
     agree_on_make("make on 16 bytes, algorithm 1", one, key, short, &[]);
     agree_on_make("make on 16 bytes, algorithm 5", five, key, short, &peers);
     agree_on_slip("slip", key, slip, 0);
+    let gathered = work::library_gathered(key, [&slip[..CUT], &slip[CUT..]]);
+    agree("slip gathered", gathered, work::baseline_slip(key, slip));
     agree_on_slip("slip with a wrong seal", key, &wrong, 30);
     agree_on_slip("slip cut short", key, cut, 20);
     let [written, expected] = work::written(key);
@@ -88,6 +92,7 @@ fn main() {
             &openssl_only,
         ),
         work::slip_line("slips accepted a second", key, slip),
+        work::gathered_line("slips gathered from two reads and accepted a second", key, slip, CUT),
         work::slip_line("slips refused a second, one bit of the seal wrong", key, &wrong),
         work::slip_line("slips refused a second, the last byte cut off", key, cut),
         work::write_line("slips written a second", key),

@@ -1,5 +1,5 @@
 //! The measured work, each piece as the library, the baseline and, for CMAC, the peers do it: a tag in one call, a session, a slip
-//! read, a slip written. Answers are turned into plain numbers, so that they can be compared.
+//! read, a slip gathered and read, a slip written. Answers are turned into plain numbers, so that they can be compared.
 
 use crate::measure::{Line, Way};
 use crate::peer::Peer;
@@ -63,9 +63,22 @@ pub fn baseline_session(key: &[u8], message: &[u8]) -> Tagged {
 const SAYS: Contents<'_> = Contents { year: 2026, month: 11, day: 4, lot: b"A7", amount: 500 };
 const SEALED: Agreement = Agreement { algorithm: 5, padding: 4, m: 64 };
 
-pub fn library_slip(key: &[u8], slip: &[u8]) -> [u64; 8] {
-    let s = raw::read(SEALED, key, slip);
+fn numbers(s: raw::Slip) -> [u64; 8] {
     [s.number, s.year, s.month, s.day, s.amount, s.calls, s.lot_at, s.lot_len]
+}
+
+pub fn library_slip(key: &[u8], slip: &[u8]) -> [u64; 8] {
+    numbers(raw::read(SEALED, key, slip))
+}
+
+pub fn library_gathered(key: &[u8], reads: [&[u8]; 2]) -> [u64; 8] {
+    numbers(gathered(key, reads))
+}
+
+/// Two reads, gathered; then the slip is read.
+fn gathered(key: &[u8], reads: [&[u8]; 2]) -> raw::Slip {
+    let none = raw::Gathered { count: 0, bytes: [0; 80] };
+    raw::read_gathered(SEALED, key, reads.into_iter().fold(none, raw::gather))
 }
 
 pub fn baseline_slip(key: &[u8], slip: &[u8]) -> [u64; 8] {
@@ -145,6 +158,15 @@ pub fn session_line<'a>(what: &'static str, key: &'a [u8], message: &'a [u8]) ->
 
 pub fn slip_line<'a>(what: &'static str, key: &'a [u8], slip: &'a [u8]) -> Line<'a> {
     let library = repeated(SHORT_CALLS, move || raw::read(SEALED, black_box(key), black_box(slip)));
+    let agreement = of_baseline(SEALED);
+    let baseline = repeated(SHORT_CALLS, move || slip::read(agreement, black_box(key), black_box(slip)));
+    line(what, SHORT_CALLS, library, baseline)
+}
+
+/// The slip in two reads. The baseline reads it whole.
+pub fn gathered_line<'a>(what: &'static str, key: &'a [u8], slip: &'a [u8], cut: usize) -> Line<'a> {
+    let reads = [&slip[..cut], &slip[cut..]];
+    let library = repeated(SHORT_CALLS, move || gathered(black_box(key), black_box(reads)));
     let agreement = of_baseline(SEALED);
     let baseline = repeated(SHORT_CALLS, move || slip::read(agreement, black_box(key), black_box(slip)));
     line(what, SHORT_CALLS, library, baseline)

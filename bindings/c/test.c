@@ -73,6 +73,8 @@ static void layout(void)
     expect(offsetof(slipseal_session, held) == 104, "place of the waiting block");
     expect(sizeof(slipseal_step) == 144, "size of a step");
     expect(sizeof(slipseal_slip) == 64, "size of a slip");
+    expect(sizeof(slipseal_gathered) == 88, "size of a gathered slip");
+    expect(offsetof(slipseal_gathered, count) == 0 && offsetof(slipseal_gathered, bytes) == 8, "order in a gathered slip");
     expect(sizeof(slipseal_written) == 24, "size of what is told of a written slip");
     expect(offsetof(slipseal_written, length) == 8 && offsetof(slipseal_written, calls) == 16, "order in it");
 }
@@ -342,6 +344,126 @@ static void order_of_reads(void)
     expect(refused_with(slipseal_read(agreed(9, 9, 999), key, 3, unreal, 37), 23), "no real date, under another agreement");
 }
 
+/* A record of zeros: nothing has come yet. */
+static const slipseal_gathered nothing = {0};
+
+/* More bytes than any slip has. */
+static const uint8_t many[100000] = {0};
+
+/* A gathered slip read under the agreement and the keys of a seal. */
+static slipseal_slip read_under(sealed s, slipseal_gathered gathered)
+{
+    uint8_t keys[32];
+    memcpy(keys, key, 16);
+    memcpy(keys + 16, second, 16);
+    return slipseal_read_gathered(s.agreement, keys, s.keys_len, gathered);
+}
+
+static int same_read(slipseal_slip a, slipseal_slip b)
+{
+    return memcmp(&a, &b, sizeof a) == 0;
+}
+
+static slipseal_gathered one_by_one(slipseal_gathered gathered, const uint8_t *bytes, size_t len)
+{
+    size_t i;
+    for (i = 0; i < len; i++) {
+        gathered = slipseal_gather(slipseal_gather(gathered, bytes, 0), bytes + i, 1);
+    }
+    return gathered;
+}
+
+/* The slips of R6: cut at every place, in single bytes with reads of none between, cut off, and with more bytes. */
+static void gathered_slips(void)
+{
+    size_t i, cut;
+    for (i = 0; i < 3; i++) {
+        const sealed s = seals[i];
+        const size_t len = 23 + s.seal_len;
+        slipseal_slip expected = example_read;
+        slipseal_gathered begun, whole;
+        uint8_t bytes[37];
+        expected.calls = s.calls;
+        memcpy(bytes, example, 23);
+        memcpy(bytes + 23, s.seal, s.seal_len);
+        for (cut = 0; cut < len; cut++) {
+            begun = slipseal_gather(nothing, bytes, cut);
+            expect(refused_with(read_under(s, begun), 20), "the beginning of a slip");
+            expect(same_read(read_under(s, slipseal_gather(begun, bytes + cut, len - cut)), expected), "a slip in two reads");
+        }
+        whole = slipseal_gather(nothing, bytes, len);
+        expect(same_read(read_under(s, whole), expected), "a slip in one read");
+        expect(same_read(read_under(s, one_by_one(nothing, bytes, len)), expected), "a slip byte by byte");
+        expect(refused_with(read_under(s, slipseal_gather(whole, many, 1)), 24), "a slip and one byte more");
+        expect(refused_with(read_under(s, slipseal_gather(whole, many, 40)), 24), "a slip and 40 bytes more");
+        expect(refused_with(read_under(s, slipseal_gather(whole, many, sizeof many)), 24), "a slip and 100000 bytes more");
+    }
+}
+
+/* An old reader compared only the seal bytes that the first read had brought, often none, and a rewritten slip passed. */
+static void the_users_own_morning(void)
+{
+    uint8_t rewritten[37];
+    size_t cut;
+    memcpy(rewritten, example, 37);
+    memcpy(rewritten + 3, "20260411", 8);
+    for (cut = 0; cut <= 37; cut++) {
+        const slipseal_gathered brought = slipseal_gather(nothing, rewritten, cut);
+        expect(refused_with(read_under(seals[0], brought), cut < 37 ? 20 : 30), "what the first read brought");
+        expect(refused_with(read_under(seals[0], slipseal_gather(brought, rewritten + cut, 37 - cut)), 30), "and the rest");
+    }
+}
+
+/* Whether a record has the first 76 of these bytes, their count, and zeros after them. */
+static int holds(slipseal_gathered gathered, const uint8_t *bytes, size_t len)
+{
+    const size_t kept = len < 76 ? len : 76;
+    return gathered.count == kept && memcmp(gathered.bytes, bytes, kept) == 0 && filled(gathered.bytes + kept, 80 - kept, 0);
+}
+
+/* However bytes are cut, they give one record. */
+static void one_record(void)
+{
+    const size_t lens[] = {0, 37, 75, 76, 77, 80, 81, 200};
+    uint8_t bytes[200];
+    size_t i, cut;
+    for (i = 0; i < sizeof bytes; i++) {
+        bytes[i] = (uint8_t)(i + 1);
+    }
+    for (i = 0; i < sizeof lens / sizeof lens[0]; i++) {
+        int all = 1;
+        for (cut = 0; cut <= lens[i]; cut++) {
+            all &= holds(slipseal_gather(slipseal_gather(nothing, bytes, cut), bytes + cut, lens[i] - cut), bytes, lens[i]);
+        }
+        expect(all, "the record of two reads");
+        expect(holds(one_by_one(nothing, bytes, lens[i]), bytes, lens[i]), "the record of single bytes");
+    }
+}
+
+/* Any count, with the example and junk after it: a count over 76 is read as 76, and nothing past it is read or handed back. */
+static void forged_gathered(void)
+{
+    const uint64_t counts[] = {0, 37, 75, 76, 77, 80, 81, ((uint64_t)1 << 32) + 37, UINT64_MAX};
+    const size_t more[] = {0, 1, 39, 80};
+    size_t i, j;
+    for (i = 0; i < sizeof counts / sizeof counts[0]; i++) {
+        const size_t held = counts[i] < 76 ? counts[i] : 76;
+        slipseal_gathered record;
+        slipseal_slip read;
+        uint8_t joined[160] = {0};
+        record.count = counts[i];
+        memset(record.bytes, 0xA5, 80);
+        memcpy(record.bytes, example, 37);
+        memcpy(joined, record.bytes, held);
+        read = read_under(seals[0], record);
+        expect(same_read(read, slipseal_read(example_agreed, key, 16, record.bytes, held)), "a forged count as the bytes it holds");
+        expect(held == 37 ? same_read(read, example_read) : refused_with(read, held == 0 ? 20 : 24), "a forged count");
+        for (j = 0; j < sizeof more / sizeof more[0]; j++) {
+            expect(holds(slipseal_gather(record, many, more[j]), joined, held + more[j]), "a forged record with more bytes");
+        }
+    }
+}
+
 /* A call that writes a slip: the refusal that it gets or 0, then what goes in, and the bytes of room. */
 typedef struct writing {
     uint64_t number;
@@ -472,6 +594,8 @@ static void no_bytes(void)
     const slipseal_agreement a = example_agreed;
     expect(refused_with(slipseal_read(a, nowhere, 0, example, 37), 4), "read with no keys");
     expect(refused_with(slipseal_read(a, key, 16, nowhere, 0), 20), "read of no slip");
+    expect(holds(slipseal_gather(nothing, nowhere, 0), message, 0), "gather of no bytes");
+    expect(refused_with(slipseal_read_gathered(a, nowhere, 0, slipseal_gather(nothing, example, 37)), 4), "gathered, no keys");
     expect(told(slipseal_write(a, nowhere, 0, 2026, 11, 4, message, 2, 500, around, 96), 4, 0, 0), "no keys");
     expect(told(slipseal_write(a, key, 16, 2026, 11, 4, nowhere, 0, 500, around, 96), 22, 0, 0), "no lot");
     expect(told(slipseal_write(a, key, 16, 2026, 11, 4, message, 2, 500, nowhere, 0), 10, 0, 0), "no room");
@@ -490,6 +614,10 @@ int main(void)
     agreements_of_slips();
     one_bit();
     order_of_reads();
+    gathered_slips();
+    the_users_own_morning();
+    one_record();
+    forged_gathered();
     written_and_read();
     refused_writes();
     rooms();

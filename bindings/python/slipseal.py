@@ -21,11 +21,25 @@ below 0 or over 2**64 - 1 cannot be handed over and raises ValueError.
 
 import ctypes
 import datetime
+import errno
 import operator
 import os
-from typing import NamedTuple, Optional, Tuple, Union
+from typing import BinaryIO, NamedTuple, Optional, Tuple, Union
 
-__all__ = ["Agreement", "Checked", "Made", "Refused", "Session", "Slip", "check", "make", "read_slip", "write_slip"]
+__all__ = [
+    "Agreement",
+    "Checked",
+    "Made",
+    "Refused",
+    "Session",
+    "Slip",
+    "SlipReader",
+    "check",
+    "make",
+    "read_slip",
+    "read_slip_from",
+    "write_slip",
+]
 
 Bytes = Union[bytes, bytearray, memoryview]
 Date = Union[datetime.date, Tuple[int, int, int]]
@@ -198,6 +212,8 @@ def read_slip(agreement: Agreement, keys: Bytes, slip: Bytes) -> Slip:
     and the seal is checked under it. Do not copy the three values that a slip names into the agreement: whoever makes the slip
     would choose how it is checked, and a slip that names m = 1 passes with one of two tags.
 
+    The bytes are the whole slip. Where it comes in several reads, take read_slip_from or a SlipReader.
+
     Refused with 20 to 24 for the slip's form, field by field; 25 where its seal names another algorithm, padding or m than agreed,
     however well the tag fits; then 1 to 6, 10, and 30 where the seal is wrong.
 
@@ -227,10 +243,77 @@ def read_slip(agreement: Agreement, keys: Bytes, slip: Bytes) -> Slip:
     refused 25: the slip names another algorithm, padding or m than agreed
     """
     slip = _bytes(slip)
-    read = _library.slipseal_read(_agreed(agreement), *_slice(keys), *_slice(slip))
-    _accept(read.number)
-    lot = slip[read.lot_at : read.lot_at + read.lot_len]
-    return Slip(read.year, read.month, read.day, read.amount, lot, read.lot_at, read.calls)
+    return _slip(_library.slipseal_read(_agreed(agreement), *_slice(keys), *_slice(slip)), slip)
+
+
+class SlipReader:
+    """A slip that comes in odd lengths: its reads are gathered, however they are cut, and the slip is read once. A slip has 75
+    bytes at most, so only the first 76 that come can matter, and no more are kept. Calls from several threads must not meet in one
+    reader.
+
+    Read it once, at the end of input. Until then nothing tells whether more bytes will come: a proper beginning of an accepted slip
+    is refused with 20, bytes after an accepted slip turn the yes into 24, and other bytes get their own refusal.
+
+    >>> key, agreement = bytes.fromhex("0123456789ABCDEFFEDCBA9876543210"), Agreement(5, 4, 64)
+    >>> scanner, line = os.pipe()
+    >>> os.write(line, write_slip(agreement, key, (2026, 11, 4), b"A7", 500))
+    37
+    >>> os.close(line)
+
+    A scanner's driver would write the loop below, which read_slip_from has too. A read of no bytes is the end of input, and nothing
+    else is. An error of the scanner leaves the loop before the slip is read, so that nothing is believed of the bottle.
+
+    >>> reader = SlipReader()
+    >>> while True:
+    ...     data = os.read(scanner, 20)
+    ...     if len(data) == 0:
+    ...         break
+    ...     reader.feed(data)
+    >>> reader.read(agreement, key)
+    Slip(year=2026, month=11, day=4, amount=500, lot=b'A7', lot_at=14, calls=3)
+    >>> os.close(scanner)
+    """
+
+    def __init__(self) -> None:
+        """Nothing has come yet."""
+        self._record = _Gathered()
+
+    def feed(self, data: Bytes) -> None:
+        """Gives the bytes of the next read, of any length, none included. Nothing is refused here: the slip is judged once, by
+        read."""
+        self._record = _library.slipseal_gather(self._record, *_slice(data))
+
+    def read(self, agreement: Agreement, keys: Bytes) -> Slip:
+        """Reads the slip under keys and what was agreed with its supplier; to be asked once, at the end of input. It answers as
+        read_slip does for all bytes that came, joined."""
+        read = _library.slipseal_read_gathered(_agreed(agreement), *_slice(keys), self._record)
+        return _slip(read, bytes(self._record.bytes))
+
+
+def read_slip_from(agreement: Agreement, keys: Bytes, file: BinaryIO) -> Slip:
+    """Reads a lot slip from a binary file: anything with read(n), a pipe without a buffer too. All bytes to the end of input are
+    gathered, in whatever lengths the file delivers them, and the slip is read once. It answers as read_slip does for these bytes.
+
+    An error of the file comes through, and nothing is then believed of the bottle. Where read(n) gives None, a non-blocking file
+    has no bytes yet; that is no end of input, and BlockingIOError is raised. A file opened as text raises TypeError.
+
+    >>> import io
+    >>> key, agreement = bytes.fromhex("0123456789ABCDEFFEDCBA9876543210"), Agreement(5, 4, 64)
+    >>> slip = write_slip(agreement, key, (2026, 11, 4), b"A7", 500)
+    >>> read_slip_from(agreement, key, io.BytesIO(slip))
+    Slip(year=2026, month=11, day=4, amount=500, lot=b'A7', lot_at=14, calls=3)
+    >>> read_slip_from(agreement, key, io.BytesIO(slip[:20]))
+    Traceback (most recent call last):
+    slipseal.Refused: refused 20: the slip is cut short
+    """
+    reader = SlipReader()
+    while True:
+        data = file.read(64)
+        if data is None:
+            raise BlockingIOError(errno.EAGAIN, "the file has no bytes yet and has not ended")
+        reader.feed(data)
+        if len(data) == 0:
+            return reader.read(agreement, keys)
 
 
 def write_slip(agreement: Agreement, keys: Bytes, expiry: Date, lot: Bytes, amount: int) -> bytes:
@@ -336,6 +419,10 @@ class _Slip(ctypes.Structure):
     ]
 
 
+class _Gathered(ctypes.Structure):
+    _fields_ = [("count", ctypes.c_uint64), ("bytes", ctypes.c_uint8 * 80)]
+
+
 class _Written(ctypes.Structure):
     _fields_ = [(name, ctypes.c_uint64) for name in ("number", "length", "calls")]
 
@@ -346,6 +433,13 @@ def _agreed(agreement: Agreement) -> _Agreement:
 
 def _made(room: "ctypes.Array[ctypes.c_uint8]", m: int, answer: _Answer) -> Made:
     return Made(bytes(room)[: (m + 7) // 8], answer.calls)
+
+
+def _slip(read: _Slip, slip: bytes) -> Slip:
+    """What is told of a slip, with the lot out of the bytes that were read."""
+    _accept(read.number)
+    lot = slip[read.lot_at : read.lot_at + read.lot_len]
+    return Slip(read.year, read.month, read.day, read.amount, lot, read.lot_at, read.calls)
 
 
 def _loaded() -> ctypes.CDLL:
@@ -365,6 +459,8 @@ def _loaded() -> ctypes.CDLL:
         ("piece", [_Record] + lent + [number], _Step),
         ("finish", [_Record] + room, _Step),
         ("read", [_Agreement] + lent + lent, _Slip),
+        ("gather", [_Gathered] + lent, _Gathered),
+        ("read_gathered", [_Agreement] + lent + [_Gathered], _Slip),
         ("write", [_Agreement] + lent + [number] * 3 + lent + [number] + room, _Written),
     ):
         function = getattr(library, "slipseal_" + name)

@@ -1,6 +1,7 @@
 """Tests of slipseal.py: annex A in one call and in pieces, the runs R4 to R7 of the requirements, slips written and read, slips
-that name something else than was agreed, every refusal with its words, records that no call handed out, and what Python alone can
-get wrong (numbers too large, other kinds of bytes, what is no date, a "no" taken for true).
+that name something else than was agreed, slips that come in odd lengths, every refusal with its words, records that no call handed
+out, and what Python alone can get wrong (numbers too large, other kinds of bytes and of files, what is no date, a "no" taken for
+true).
 
     python3 -m unittest          in this folder
 """
@@ -8,14 +9,18 @@ get wrong (numbers too large, other kinds of bytes, what is no date, a "no" take
 import array
 import datetime
 import doctest
+import errno
+import io
 import os
 import re
 import subprocess
 import sys
+import threading
+import time
 import unittest
 
 import slipseal
-from slipseal import Agreement, Refused, Session, check, make, read_slip, write_slip
+from slipseal import Agreement, Refused, Session, SlipReader, check, make, read_slip, read_slip_from, write_slip
 
 ROOT = os.path.join(os.path.dirname(os.path.abspath(__file__)), "..", "..")
 MESSAGE = b"This is the test message for mac"
@@ -24,6 +29,11 @@ KEYS = KEY + bytes.fromhex("4149D2ADED9456681EC8B511D9E7EE04")
 COVERED = bytes.fromhex("01000832303236313130340200024137030004000001F4")
 SLIP = COVERED + bytes.fromhex("7F000B050440A47A9299C7B8456C")
 AGREED, DAY = Agreement(5, 4, 64), datetime.date(2026, 11, 4)  # those of SLIP
+R6 = (
+    (AGREED, "7F000B050440A47A9299C7B8456C", KEY, 3),
+    (Agreement(2, 2, 64), "7F000B02024025BE21F5FDEE57F4", KEYS, 3),
+    (Agreement(1, 1, 12), "7F000501010CA330", KEY, 2),
+)
 
 
 def text(*path):
@@ -264,12 +274,6 @@ class Sessions(Case):
 
 
 class Slips(Case):
-    R6 = (
-        (AGREED, "7F000B050440A47A9299C7B8456C", KEY, 3),
-        (Agreement(2, 2, 64), "7F000B02024025BE21F5FDEE57F4", KEYS, 3),
-        (Agreement(1, 1, 12), "7F000501010CA330", KEY, 2),
-    )
-
     def slip_refused(self, number, agreement, keys, slip):
         """The struct that comes with a refusal has zeros beside its number."""
         self.refused(number, read_slip, agreement, keys, slip)
@@ -277,7 +281,7 @@ class Slips(Case):
         self.assertEqual(bytes(read), number.to_bytes(8, "little") + bytes(56))
 
     def test_r6_accepted(self):
-        for agreement, seal, keys, calls in self.R6:
+        for agreement, seal, keys, calls in R6:
             slip = read_slip(agreement, keys, COVERED + bytes.fromhex(seal))
             self.assertEqual(slip, (2026, 11, 4, 500, b"A7", 14, calls))
             self.assertEqual(slip.expiry, DAY)
@@ -296,7 +300,7 @@ class Slips(Case):
 
     def test_another_agreement(self):
         """The three numbers are compared whole: the other one is off by one, or equal in its low 8, 16, 32 or 63 bits."""
-        for agreement, seal, keys, _ in self.R6:
+        for agreement, seal, keys, _ in R6:
             slip = COVERED + bytes.fromhex(seal)
             wrong = slip[:-1] + bytes([slip[-1] ^ 1])
             self.slip_refused(30, agreement, keys, wrong)
@@ -357,7 +361,7 @@ class Slips(Case):
         self.slip_refused(23, Agreement(9, 9, 999), b"", SLIP[:3] + b"20230229" + SLIP[11:])
 
     def test_r6_written(self):
-        for agreement, seal, keys, _ in self.R6:
+        for agreement, seal, keys, _ in R6:
             for expiry in (DAY, (2026, 11, 4), [2026, 11, 4]):
                 slip = write_slip(agreement, keys, expiry, b"A7", 500)
                 self.assertIs(type(slip), bytes)
@@ -424,6 +428,187 @@ class Slips(Case):
         self.assertEqual(len(write_slip(Agreement(8, 4, 1), KEY, DAY, b"!", 1)), 29)
 
 
+def gathered(*reads):
+    reader = SlipReader()
+    for read in reads:
+        reader.feed(read)
+    return reader
+
+
+def one_by_one(data):
+    return [data[i : i + 1] for i in range(len(data))]
+
+
+def record_of(data):
+    """The bytes of the record of these: the count of the first 76, these, and zeros."""
+    kept = data[:76]
+    return len(kept).to_bytes(8, "little") + kept + bytes(80 - len(kept))
+
+
+class Delivering:
+    """A file that gives one of these at each read, then the end of input. An error is raised."""
+
+    def __init__(self, *reads):
+        self.reads = list(reads)
+
+    def read(self, length):
+        read = self.reads.pop(0) if self.reads else b""
+        if isinstance(read, Exception):
+            raise read
+        return read
+
+
+class Gathering(Case):
+    """Slips that come in odd lengths."""
+
+    LONGEST = Agreement(8, 4, 128), KEY, write_slip(Agreement(8, 4, 128), KEY, DAY, b"~" * 32, 500)
+    GOOD = [(agreement, keys, COVERED + bytes.fromhex(seal)) for agreement, seal, keys, _ in R6] + [LONGEST]
+
+    def answer(self, call, *arguments):
+        """What a call gives, or the number of its refusal."""
+        try:
+            return call(*arguments)
+        except Refused as refused:
+            return refused.number
+
+    def read_as(self, reader, agreement, keys, slip):
+        """The struct that comes is that of the slip in one read, in every field."""
+        lent = slipseal._agreed(agreement), keys, len(keys)
+        whole = slipseal._library.slipseal_read(*lent, slip, len(slip))
+        self.assertEqual(bytes(slipseal._library.slipseal_read_gathered(*lent, reader._record)), bytes(whole))
+
+    def test_r6_in_two_reads(self):
+        for agreement, seal, keys, calls in R6:
+            slip = COVERED + bytes.fromhex(seal)
+            for cut in range(len(slip) + 1):
+                with self.subTest(agreement=agreement, cut=cut):
+                    read = gathered(slip[:cut], slip[cut:]).read(agreement, keys)
+                    self.assertEqual(read, (2026, 11, 4, 500, b"A7", 14, calls))
+
+    def test_byte_by_byte_and_reads_of_none(self):
+        for agreement, keys, slip in self.GOOD:
+            reader = gathered(b"", *one_by_one(slip), b"")
+            self.assertEqual(reader.read(agreement, keys), read_slip(agreement, keys, slip))
+        self.refused(20, SlipReader().read, AGREED, KEY)
+        self.refused(20, gathered(b"", b"").read, AGREED, KEY)
+
+    def test_the_users_own_morning(self):
+        """An old reader compared only the seal bytes that the first read had brought, often none, and a rewritten slip passed."""
+        rewritten = SLIP[:3] + b"20260411" + SLIP[11:]
+        for cut in range(len(rewritten) + 1):
+            with self.subTest(cut=cut):
+                reader = gathered(rewritten[:cut])
+                self.refused(20 if cut < len(rewritten) else 30, reader.read, AGREED, KEY)
+                reader.feed(rewritten[cut:])
+                self.refused(30, reader.read, AGREED, KEY)
+
+    def test_beginnings_and_lengthenings(self):
+        for agreement, keys, slip in self.GOOD:
+            for cut in range(len(slip)):
+                self.refused(20, gathered(slip[:cut]).read, agreement, keys)
+            for more in (b"\0", b"\x7F", bytes(40), bytes(100000)):
+                self.refused(24, gathered(slip, more).read, agreement, keys)
+                self.refused(24, gathered(slip + more).read, agreement, keys)
+                self.refused(24, gathered(*one_by_one(slip + more)).read, agreement, keys)
+
+    def test_other_bytes_get_their_own_answer(self):
+        for place in range(len(SLIP)):
+            for byte in range(256):
+                slip, cut = SLIP[:place] + bytes([byte]) + SLIP[place + 1 :], byte % len(SLIP)
+                reader = gathered(slip[:cut], slip[cut:])
+                self.read_as(reader, AGREED, KEY, slip)
+                self.assertEqual(self.answer(reader.read, AGREED, KEY), self.answer(read_slip, AGREED, KEY, slip))
+
+    def test_one_record_however_it_is_cut(self):
+        data = bytes(range(1, 201))
+        for length in (0, 1, 37, 75, 76, 77, 80, 81, 152, 200):
+            for cut in range(length + 1):
+                record = gathered(data[:cut], data[cut:length])._record
+                self.assertEqual(bytes(record), record_of(data[:length]))
+            self.assertEqual(bytes(gathered(*one_by_one(data[:length]))._record), record_of(data[:length]))
+
+    def test_forged_records(self):
+        """A count over 76 is read as 76, and nothing past it is read or handed back."""
+        for agreement, keys, slip in self.GOOD:
+            for count in (0, 37, 75, 76, 77, 80, 81, 2**8 + 37, 2**16 + 37, 2**32 + 37, 2**63 + 37, 2**64 - 1):
+                data = slip + b"\xA5" * (80 - len(slip))
+                held = data[: min(count, 76)]
+                number = 20 if len(held) < len(slip) else 24
+                for more in (b"", b"A", b"A" * 39, b"A" * 100000):
+                    reader = SlipReader()
+                    reader._record = slipseal._Gathered(count, type(reader._record.bytes)(*data))
+                    with self.subTest(agreement=agreement, count=count, more=len(more)):
+                        if held == slip:
+                            self.assertEqual(reader.read(agreement, keys), read_slip(agreement, keys, slip))
+                        else:
+                            self.refused(number, reader.read, agreement, keys)
+                        reader.feed(more)
+                        self.assertEqual(bytes(reader._record), record_of(held + more))
+                        self.read_as(reader, agreement, keys, held + more)
+
+    def test_files(self):
+        for agreement, keys, slip in self.GOOD:
+            expected = read_slip(agreement, keys, slip)
+            self.assertEqual(read_slip_from(agreement, keys, io.BytesIO(slip)), expected)
+            self.assertEqual(read_slip_from(agreement, keys, Delivering(*one_by_one(slip))), expected)
+            late = Delivering(slip, b"", b"after the end")
+            self.assertEqual(read_slip_from(agreement, keys, late), expected)
+            self.assertEqual(late.reads, [b"after the end"])
+        for cut in range(len(SLIP)):
+            self.refused(20, read_slip_from, AGREED, KEY, io.BytesIO(SLIP[:cut]))
+        for more in (1, 40, 100000):
+            self.refused(24, read_slip_from, AGREED, KEY, io.BytesIO(SLIP + bytes(more)))
+
+    def test_a_pipe_trickled_byte_by_byte(self):
+        rewritten = SLIP[:3] + b"20260411" + SLIP[11:]
+        for buffering in (0, -1):
+            for slip in (SLIP, SLIP[:-1], SLIP + b"\0", rewritten):
+                scanner, line = os.pipe()
+
+                def trickle(slip=slip, line=line):
+                    for byte in one_by_one(slip):
+                        os.write(line, byte)
+                        time.sleep(0.001)
+                    os.close(line)
+
+                thread = threading.Thread(target=trickle)
+                with open(scanner, "rb", buffering=buffering) as file, self.subTest(slip=slip, buffering=buffering):
+                    thread.start()
+                    read = self.answer(read_slip_from, AGREED, KEY, file)
+                    thread.join()
+                    self.assertEqual(read, self.answer(read_slip, AGREED, KEY, slip))
+
+    def test_no_bytes_yet_is_no_end(self):
+        for buffering in (0, -1):
+            for brought in (b"", SLIP[:23], SLIP):
+                scanner, line = os.pipe()
+                os.set_blocking(scanner, False)
+                os.write(line, brought)
+                with open(scanner, "rb", buffering=buffering) as file, self.subTest(brought=brought, buffering=buffering):
+                    with self.assertRaises(BlockingIOError) as caught:
+                        read_slip_from(AGREED, KEY, file)
+                    self.assertEqual(caught.exception.errno, errno.EAGAIN)
+                os.close(line)
+
+    def test_errors_of_the_file_come_through(self):
+        for cut in range(len(SLIP) + 1):
+            file = Delivering(*one_by_one(SLIP[:cut]), OSError(errno.EIO, "unplugged"), SLIP[cut:])
+            with self.assertRaisesRegex(OSError, "unplugged"):
+                read_slip_from(AGREED, KEY, file)
+
+    def test_text(self):
+        for text in ("", "A7", SLIP.decode("latin-1")):
+            self.assertRaises(TypeError, read_slip_from, AGREED, KEY, io.StringIO(text))
+        with open(os.devnull, encoding="utf-8") as file:
+            self.assertRaises(TypeError, read_slip_from, AGREED, KEY, file)
+
+    def test_what_is_no_bytes_leaves_the_reader(self):
+        reader = gathered(SLIP)
+        for data in (None, 16, "A7", [0]):
+            self.assertRaises(TypeError, reader.feed, data)
+        self.assertEqual(reader.read(AGREED, KEY).lot, b"A7")
+
+
 class Words(Case):
     def test_words_are_those_of_the_card_and_the_header(self):
         card = re.findall(r"^\| (\d+) \| ([^|]+) \|", text("docs", "ANSWERS.md"), re.MULTILINE)
@@ -456,7 +641,9 @@ class Handed(Case):
 
     def test_an_agreement_beyond_64_bits_is_not_cut_down(self):
         for name, number in AGREED._asdict().items():
-            self.assertRaises(ValueError, read_slip, AGREED._replace(**{name: 2**64 + number}), KEY, SLIP)
+            far = AGREED._replace(**{name: 2**64 + number})
+            self.assertRaises(ValueError, read_slip, far, KEY, SLIP)
+            self.assertRaises(ValueError, gathered(SLIP).read, far, KEY)
 
     def test_what_is_no_number_or_no_bytes(self):
         self.assertRaises(TypeError, make, Agreement(1.0, 1, 64), KEY, b"")
@@ -479,6 +666,7 @@ class Handed(Case):
         for kind in (bytearray, memoryview, lambda value: array.array("B", value)):
             self.assertEqual(make(plain, kind(KEY), kind(MESSAGE)), made)
             self.assertEqual(read_slip(AGREED, kind(KEY), kind(SLIP)).lot, b"A7")
+            self.assertEqual(gathered(kind(SLIP[:20]), kind(SLIP[20:])).read(AGREED, kind(KEY)).lot, b"A7")
             self.assertEqual(write_slip(AGREED, kind(KEY), DAY, kind(b"A7"), 500), SLIP)
         self.assertEqual(make(plain, KEY, memoryview(MESSAGE)[::2]), make(plain, KEY, MESSAGE[::2]))
 

@@ -52,6 +52,9 @@ fn layout_is_that_of_the_header() {
     assert_eq!(offset_of!(Record, declared), 40);
     assert_eq!(size_of::<raw::Step>(), 144);
     assert_eq!(size_of::<raw::Slip>(), 64);
+    assert_eq!(size_of::<raw::Gathered>(), 88);
+    assert_eq!(offset_of!(raw::Gathered, count), 0);
+    assert_eq!(offset_of!(raw::Gathered, bytes), 8);
     assert_eq!(size_of::<raw::Written>(), 24);
     assert_eq!(offset_of!(raw::Written, length), 8);
     assert_eq!(offset_of!(raw::Written, calls), 16);

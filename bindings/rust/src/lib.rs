@@ -27,10 +27,12 @@ compile_error!("slipseal is built for x86-64 Linux only");
 mod forged;
 #[doc(hidden)]
 pub mod raw;
+mod reader;
 mod refusal;
 mod session;
 mod slip;
 
+pub use reader::SlipReader;
 pub use refusal::Refusal;
 pub use session::{RefusedFinish, Session};
 pub use slip::{read_slip, write_slip, Contents, Slip, Written};

@@ -33,7 +33,7 @@ pub struct Step {
 }
 
 #[repr(C)]
-#[derive(Clone, Copy)]
+#[derive(Clone, Copy, PartialEq, Eq, Debug)]
 pub struct Slip {
     pub number: u64,
     pub year: u64,
@@ -43,6 +43,13 @@ pub struct Slip {
     pub calls: u64,
     pub lot_at: u64,
     pub lot_len: u64,
+}
+
+#[repr(C)]
+#[derive(Clone, Copy, PartialEq, Eq, Debug)]
+pub struct Gathered {
+    pub count: u64,
+    pub bytes: [u8; 80],
 }
 
 #[repr(C)]
@@ -90,6 +97,15 @@ extern "C" {
         slip_len: usize,
     ) -> Slip;
 
+    fn slipseal_gather(gathered: Gathered, bytes: *const u8, len: usize) -> Gathered;
+
+    fn slipseal_read_gathered(
+        agreement: Agreement,
+        keys: *const u8,
+        keys_len: usize,
+        gathered: Gathered,
+    ) -> Slip;
+
     fn slipseal_write(
         agreement: Agreement,
         keys: *const u8,
@@ -135,6 +151,16 @@ pub fn finish(record: Record, room: &mut [u8]) -> Step {
 pub fn read(agreement: Agreement, keys: &[u8], slip: &[u8]) -> Slip {
     // SAFETY: each pointer comes from a slice and goes with its length.
     unsafe { slipseal_read(agreement, keys.as_ptr(), keys.len(), slip.as_ptr(), slip.len()) }
+}
+
+pub fn gather(record: Gathered, bytes: &[u8]) -> Gathered {
+    // SAFETY: the pointer comes from a slice and goes with its length; any record is answered.
+    unsafe { slipseal_gather(record, bytes.as_ptr(), bytes.len()) }
+}
+
+pub fn read_gathered(agreement: Agreement, keys: &[u8], record: Gathered) -> Slip {
+    // SAFETY: the pointer comes from a slice and goes with its length; any record is answered.
+    unsafe { slipseal_read_gathered(agreement, keys.as_ptr(), keys.len(), record) }
 }
 
 pub fn write(agreement: Agreement, keys: &[u8], contents: Contents<'_>, room: &mut [u8]) -> Written {

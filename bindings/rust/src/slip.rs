@@ -38,6 +38,8 @@ pub struct Written<'a> {
 /// seal is checked under it. Do not copy the three values that a slip names into the agreement: whoever makes the slip would choose
 /// how it is checked, and a slip that names m = 1 passes with one of two tags.
 ///
+/// The bytes are the whole slip. Where it comes in several reads, [`SlipReader`](crate::SlipReader) gathers them first.
+///
 /// An accepted slip names exactly the agreement. Its tag covers all bytes before field 7F, and under one agreement and keys two
 /// accepted slips with the same bytes before field 7F are one slip.
 ///
@@ -73,9 +75,13 @@ pub struct Written<'a> {
 /// # Ok::<(), slipseal::Refusal>(())
 /// ```
 pub fn read_slip<'a>(agreement: Agreement, keys: &[u8], slip: &'a [u8]) -> Result<Slip<'a>, Refusal> {
-    let read = raw::read(agreement, keys, slip);
+    told(raw::read(agreement, keys, slip), slip)
+}
+
+/// What is told of a slip, with the lot lent from the bytes that were read; or its refusal.
+pub(crate) fn told(read: raw::Slip, bytes: &[u8]) -> Result<Slip<'_>, Refusal> {
     Refusal::of(read.number)?;
-    let lot = &slip[read.lot_at as usize..][..read.lot_len as usize];
+    let lot = &bytes[read.lot_at as usize..][..read.lot_len as usize];
     let raw::Slip { year, month, day, amount, calls, .. } = read;
     Ok(Slip { contents: Contents { year, month, day, lot, amount }, calls })
 }

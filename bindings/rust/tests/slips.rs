@@ -4,30 +4,8 @@
 
 mod common;
 
-use common::{agreed, calls, hex, key, keys};
+use common::{agreed, calls, first, hex, key, keys, slip, AGREED, COVERED, GOOD, R6};
 use slipseal::{make, raw, read_slip, write_slip, Agreement, Contents};
-
-const GOOD: Contents<'static> = Contents { year: 2026, month: 11, day: 4, lot: b"A7", amount: 500 };
-
-/// What was agreed on the first of the three slips below.
-const AGREED: Agreement = agreed(5, 4, 64);
-
-/// What was agreed, seal, bytes of the keys, and calls of the accepted ones.
-const R6: [(Agreement, &str, usize, u64); 3] = [
-    (AGREED, "7F000B050440 A47A9299C7B8456C", 16, 3),
-    (agreed(2, 2, 64), "7F000B020240 25BE21F5FDEE57F4", 32, 3),
-    (agreed(1, 1, 12), "7F000501010C A330", 16, 2),
-];
-
-const COVERED: &str = "01000832303236313130340200024137030004000001F4";
-
-fn slip(seal: &str) -> Vec<u8> {
-    [hex(COVERED), hex(seal)].concat()
-}
-
-fn first() -> Vec<u8> {
-    slip("7F000B050440 A47A9299C7B8456C")
-}
 
 /// The number of a refused slip, which must have zeros beside it.
 fn refused(agreement: Agreement, keys: &[u8], slip: &[u8]) -> u64 {

@@ -1,5 +1,6 @@
--- What `add` rests on: a record holds 76 bytes at most, and what it holds with the first bytes of a read after them is the first 76 of
--- both joined. And the record that is made of bytes holds the first 76 of them, and no others.
+-- What any record holds: 76 bytes at most, of a count over 76 as of 76 (`over-76`), and never one of the last four (`last-four`). What
+-- `add` rests on: what a record holds, with the first bytes of a read after it, is the first 76 of both joined. And the record that is
+-- made of bytes holds the first 76 of them, and no others.
 -- Assumes nothing.
 use mathlib.Core.Path.{_≡_, refl, sym, ap, ap₂, _∙_}
 use mathlib.Core.List.{List, _++_, append-assoc}
@@ -12,12 +13,25 @@ use Rattle.writing.specs.Writing.{filledTo}
 use Rattle.slip.specs.declared.Gathered.{Gathered}
 use Rattle.slip.specs.Gathering.{most, held, gatheredOf, addOf}
 
--- ---- the first 76 bytes
+-- ---- any record
 
--- what is held is never more
 pub held-few : (g : Gathered) → length (held g) ≤ most
 unfolding held
 held-few g = omega (arith, length-take (g .count) (take most (g .bytes)), length-take most (g .bytes))
+
+-- a count over 76 is read as 76
+pub over-76 : (g : Gathered) → most ≤ g .count → held g ≡ held (record { count = most; bytes = g .bytes })
+unfolding held
+over-76 g over =
+    take-all (g .count) (take most (g .bytes)) (omega (arith, length-take most (g .bytes)))
+    ∙ sym (take-all most (take most (g .bytes)) (omega (arith, length-take most (g .bytes))))
+
+-- the bytes after the first 76 are not read
+pub last-four : (g h : Gathered) → g .count ≡ h .count → take most (g .bytes) ≡ take most (h .bytes) → held g ≡ held h
+unfolding held
+last-four g h counts bytes = ap₂ take counts bytes
+
+-- ---- the first 76 bytes
 
 -- so many bytes, and of more as many as there is room for
 pub joined-first : (h s : List ℕ) → length h ≤ most → h ++ take (most - length h) s ≡ take most (h ++ s)

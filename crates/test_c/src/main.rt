@@ -1,7 +1,8 @@
 // The functions for C, each called as C calls it: a tag is made and checked; a session is started, fed, tried too early and with
 // too little room, and finished; a struct whose phase is none of the three comes back as it came; a slip is read under what was
-// agreed, under another key and under another m; the same slip is written, and refused a room that is a byte too small. Every
-// answer is known beforehand (docs/ARCHITECTURE.md, "Tests").
+// agreed, under another key and under another m; the same slip is gathered from two reads, and read after the first, after both and
+// with one byte more; two records with junk in them, one with a forged count, are read and gathered on; the same slip is written,
+// and refused a room that is a byte too small. Every answer is known beforehand (docs/ARCHITECTURE.md, "Tests").
 const KEYS: [u8; 32] = *b"\
     \x01\x23\x45\x67\x89\xab\xcd\xef\xfe\xdc\xba\x98\x76\x54\x32\x10\
     \x41\x49\xd2\xad\xed\x94\x56\x68\x1e\xc8\xb5\x11\xd9\xe7\xee\x04";
@@ -9,6 +10,15 @@ const KEYS: [u8; 32] = *b"\
 const SLIP: [u8; 37] = *b"\
     \x01\x00\x0820261104\x02\x00\x02A7\x03\x00\x04\x00\x00\x01\xf4\
     \x7f\x00\x0b\x05\x04\x40\xa4\x7a\x92\x99\xc7\xb8\x45\x6c";
+
+// The slip, junk to the 76th byte, and other junk in the four bytes that are no part of a slip.
+const JUNK: [u8; 80] = *b"\
+    \x01\x00\x0820261104\x02\x00\x02A7\x03\x00\x04\x00\x00\x01\xf4\
+    \x7f\x00\x0b\x05\x04\x40\xa4\x7a\x92\x99\xc7\xb8\x45\x6c\
+    \xcc\xcc\xcc\xcc\xcc\xcc\xcc\xcc\xcc\xcc\xcc\xcc\xcc\
+    \xcc\xcc\xcc\xcc\xcc\xcc\xcc\xcc\xcc\xcc\xcc\xcc\xcc\
+    \xcc\xcc\xcc\xcc\xcc\xcc\xcc\xcc\xcc\xcc\xcc\xcc\xcc\
+    \xdd\xdd\xdd\xdd";
 
 fn main() {
     let keys = KEYS;
@@ -18,6 +28,9 @@ fn main() {
     read(64, &keys[0..16], &slip);
     read(64, &keys[16..], &slip);
     read(63, &keys[0..16], &slip);
+    gather(&keys[0..16]);
+    forged(&keys[0..16], 37);
+    forged(&keys[0..16], 1000);
     write(&keys[0..16]);
 }
 
@@ -139,8 +152,11 @@ fn read(m: usize, key: &[u8], slip: &[u8]) {
         padding: 4,
         m,
     };
-    let answer = slipseal::slipseal_read(agreed, key, slip);
-    print(b"read:");
+    tell_slip(b"read:", slipseal::slipseal_read(agreed, key, slip));
+}
+
+fn tell_slip(what: &[u8], answer: slipseal::Slip) {
+    print(what);
     number(answer.number);
     number(answer.year);
     number(answer.month);
@@ -150,6 +166,43 @@ fn read(m: usize, key: &[u8], slip: &[u8]) {
     number(answer.lot_at);
     number(answer.lot_len);
     print(b"\n");
+}
+
+fn read_gathered(what: &[u8], key: &[u8], g: slip::Gathered) {
+    let agreed = settings::Agreement {
+        algorithm: 5,
+        padding: 4,
+        m: 64,
+    };
+    tell_slip(what, slipseal::slipseal_read_gathered(agreed, key, g));
+}
+
+// The slip in reads of 20 and of 17 bytes, then one byte more.
+fn gather(key: &[u8]) {
+    let slip = SLIP;
+    let none = slip::Gathered {
+        count: 0,
+        bytes: [0u8; 80],
+    };
+    let some = slipseal::slipseal_gather(none, &slip[0..20]);
+    let all = slipseal::slipseal_gather(some, &slip[20..]);
+    let more = slipseal::slipseal_gather(all, b"7");
+    read_gathered(b"the first read:", key, some);
+    read_gathered(b"both reads:", key, all);
+    read_gathered(b"one byte more:", key, more);
+}
+
+// A record that no call handed out, read; and what comes back from a read of no bytes, its count and its bytes.
+fn forged(key: &[u8], count: usize) {
+    let junk = JUNK;
+    let came = slip::Gathered { count, bytes: junk };
+    read_gathered(b"a record with junk:", key, came);
+    let after = slipseal::slipseal_gather(came, b"");
+    print(b" ");
+    number(after.count);
+    print(b"\n");
+    let kept = after.bytes;
+    bytes(&kept);
 }
 
 // The slip into a room of a byte more, and into one of a byte less.

@@ -15,6 +15,12 @@
 //     changed A P M KEYS SLIP             the slip with each byte changed to every other value: how many are accepted, and how many get
 //                                         which refusal (31: one with values)
 //     prefixes A P M KEYS SLIP            the same for every beginning that is shorter than the slip
+//     firsts A P M KEYS SLIP              each beginning of the slip, none and the whole included, is gathered as the first read:
+//                                         the same counts for it alone, and with the rest as the second read (31 also where the
+//                                         record, the answer or the lot is not that of these bytes in one piece)
+//     trickled A P M KEYS SLIP SIZE       as slip, gathered from reads of SIZE bytes, 1 to 4096, each after a read of no bytes
+//     record A P M KEYS COUNT BYTES READ  a record of this count and of these bytes, at most 80, zeros after them: as slip, alone
+//                                         and with the read; then its count and bytes with the read
 //     write A P M KEYS YEAR MONTH DAY LOT AMOUNT ROOM   written LENGTH bytes CALLS calls and the room's bytes; or refused N, "with values"
 //                                         where length or calls are not 0, and whether the room is untouched
 //
@@ -23,6 +29,7 @@
 // first line, and print its phase after their answer; PHASE is 0 closed, 1 at a byte edge, 2 after a part byte of PART bits. A line
 // whose first word is # is printed alone. No other line is looked for: tests/make-runs stores none that the reference cannot read.
 mod calls;
+mod gathered;
 mod halves;
 mod sessions;
 mod slips;
@@ -32,8 +39,8 @@ mod writes;
 use words::print;
 
 // The commands, in the order of their numbers; 0 is a remark.
-const NAMES: [u8; 83] =
-    *b"# make check halves slip changed prefixes write start piece zeros finish forge same";
+const NAMES: [u8; 106] =
+    *b"# make check halves slip changed prefixes firsts trickled record write start piece zeros finish forge same";
 
 pub(crate) const CHECK: usize = 2;
 
@@ -43,17 +50,23 @@ pub(crate) const SLIP: usize = 4;
 
 pub(crate) const CHANGED: usize = 5;
 
-pub(crate) const WRITE: usize = 7;
+pub(crate) const FIRSTS: usize = 7;
 
-pub(crate) const START: usize = 8;
+pub(crate) const TRICKLED: usize = 8;
 
-pub(crate) const PIECE: usize = 9;
+pub(crate) const RECORD: usize = 9;
 
-pub(crate) const ZEROS: usize = 10;
+pub(crate) const WRITE: usize = 10;
 
-pub(crate) const FINISH: usize = 11;
+pub(crate) const START: usize = 11;
 
-pub(crate) const SAME: usize = 13;
+pub(crate) const PIECE: usize = 12;
+
+pub(crate) const ZEROS: usize = 13;
+
+pub(crate) const FINISH: usize = 14;
+
+pub(crate) const SAME: usize = 16;
 
 fn main() {
     let count = os::arg_count();
@@ -108,8 +121,12 @@ fn answered(kind: usize, line: &[u8], state: sessions::State) -> sessions::State
         calls::command(kind, line);
         return state;
     }
-    if kind < WRITE {
+    if kind < FIRSTS {
         slips::command(kind, line);
+        return state;
+    }
+    if kind < WRITE {
+        gathered::command(kind, line);
         return state;
     }
     if kind < START {

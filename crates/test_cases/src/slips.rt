@@ -3,8 +3,8 @@
 use crate::words;
 use words::print;
 
-// How often each number was answered: 0 to 30 at its index; 31 stands for a refusal with a value beside it.
-type Counts = [usize; 32];
+// How often each number was answered: 0 to 30 at its index; 31 is what no slip may get, as a refusal with a value beside it.
+pub(crate) type Counts = [usize; 32];
 
 pub(crate) fn command(kind: usize, line: &[u8]) {
     let mut keys = io::buffer();
@@ -23,7 +23,10 @@ pub(crate) fn command(kind: usize, line: &[u8]) {
 // The slip is the first so many bytes of the room.
 fn answer(kind: usize, agreement: settings::Agreement, keys: &[u8], room: &mut [u8], size: usize) {
     if kind == crate::SLIP {
-        print_read(agreement, keys, words::first(room, size));
+        print_answer(
+            slip::read(agreement, keys, words::first(room, size)),
+            slip::lot(agreement, keys, words::first(room, size)),
+        );
         return;
     }
     if kind == crate::CHANGED {
@@ -35,9 +38,15 @@ fn answer(kind: usize, agreement: settings::Agreement, keys: &[u8], room: &mut [
 
 // ---- one slip
 
-// The number that a slip gets; 31 where a refusal comes with a value that is not zero or a part that is not empty.
 fn number(agreement: settings::Agreement, keys: &[u8], slip: &[u8]) -> usize {
-    let read = slip::read(agreement, keys, slip);
+    number_of(
+        slip::read(agreement, keys, slip),
+        slip::lot(agreement, keys, slip),
+    )
+}
+
+// The number of an answer; 31 where a refusal comes with a value that is not zero or a part that is not empty.
+pub(crate) fn number_of(read: slip::Slip, lot: &[u8]) -> usize {
     if read.number == 0 {
         return 0;
     }
@@ -49,21 +58,21 @@ fn number(agreement: settings::Agreement, keys: &[u8], slip: &[u8]) -> usize {
         | contents.lot_at
         | contents.lot_len
         | read.calls
-        | slip::lot(agreement, keys, slip).len();
+        | lot.len();
     if values != 0 {
         return 31;
     }
     read.number
 }
 
-fn print_read(agreement: settings::Agreement, keys: &[u8], slip: &[u8]) {
-    let read = slip::read(agreement, keys, slip);
+// What was read of a slip, and the part that came as its lot.
+pub(crate) fn print_answer(read: slip::Slip, lot: &[u8]) {
     if read.number == 0 {
-        print_accepted(read.contents, slip::lot(agreement, keys, slip), read.calls);
+        print_accepted(read.contents, lot, read.calls);
         return;
     }
     words::print_both(b"refused ", read.number);
-    if number(agreement, keys, slip) != read.number {
+    if number_of(read, lot) != read.number {
         print(b" with values");
     }
 }
@@ -87,7 +96,7 @@ fn print_two_digits(n: usize) {
 
 // ---- many slips
 
-fn counted(counts: Counts, no: usize) -> Counts {
+pub(crate) fn counted(counts: Counts, no: usize) -> Counts {
     let mut next = counts;
     let i = no % 32;
     next[i] = std::num::wrapping_add_usize(next[i], 1);
@@ -146,7 +155,7 @@ fn prefixes(agreement: settings::Agreement, keys: &[u8], slip: &[u8]) -> Counts 
     counts
 }
 
-fn print_counts(counts: Counts) {
+pub(crate) fn print_counts(counts: Counts) {
     words::print_number(counts[0]);
     print(b" accepted");
     let mut no = 1;

@@ -33,10 +33,10 @@ pub(crate) fn word(line: &[u8], before: usize) -> &[u8] {
     &line[at..end]
 }
 
-// How many words stand before this one, of at most 14.
+// How many words stand before this one, of at most 17.
 pub(crate) fn place(line: &[u8], name: &[u8]) -> usize {
     let mut i = 0;
-    while i < 14 {
+    while i < 17 {
         if check::same(word(line, i), name) {
             return i;
         }
@@ -98,6 +98,14 @@ pub(crate) fn first(s: &[u8], count: usize) -> &[u8] {
         return &s[0..count];
     }
     s
+}
+
+// What stands after the first so many bytes, or nothing where there are fewer.
+pub(crate) fn rest(s: &[u8], count: usize) -> &[u8] {
+    if count <= s.len() {
+        return &s[count..];
+    }
+    &s[0..0]
 }
 
 pub(crate) fn print(text: &[u8]) {

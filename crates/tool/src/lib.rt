@@ -1,6 +1,6 @@
 // All input and output of the programs slipcheck and slipprint (printing.rt). They tell everything on standard output, since a program
-// here has no exit status. slipcheck reads the keys from standard input and one slip from a file, and says in words whether the slip
-// is to be believed under what was agreed with its supplier:
+// here has no exit status. slipcheck reads the keys from standard input and one slip from a file, which may be a pipe, and says in
+// words whether the slip is to be believed under what was agreed with its supplier:
 //
 //     slipcheck FILE ALGORITHM PADDING M    accepted and what the slip says; or refused, the number and its meaning; or error and
 //                                           what is wrong
@@ -15,13 +15,14 @@
 //     4096   io::write_all, where the system takes only a part of what is written
 //      880   the vectors: their rows 792, keys 32, text 32, a tag 8 and its digits 16
 //      256   a chunk of the typed keys
+//      256   a read of the file
 //      195   the algorithm, the padding and M, 65 each
+//      160   the slip gathered, and the copy that its lot is printed from
 //       33   the key bytes
-//       76   the slip
 //       20   a number's digits
 //        8   a word alone
 //    -----
-//    13756   bytes in all
+//    14096   bytes in all
 mod arguments;
 mod hex;
 mod new_file;
@@ -68,6 +69,7 @@ pub fn answer(typed: i32, at: usize, count: usize) {
 fn print_usage() {
     print(b"slipcheck FILE ALGORITHM PADDING M\n");
     print(b"    checks the slip in the file; the keys are hex digits on standard input\n");
+    print(b"    the file is read to its end, and may be a pipe, such as /dev/fd/3\n");
     print(
         b"    as in: slipcheck slip 5 4 64 (the three numbers as agreed with the supplier and kept\n",
     );

@@ -5,6 +5,7 @@
 pub mod border;
 pub mod calls;
 pub mod draw;
+pub mod gathered;
 pub mod library;
 pub mod run;
 pub mod sessions;

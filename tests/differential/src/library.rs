@@ -1,6 +1,7 @@
-//! The library's seven functions, as the Rust binding calls them through C, answering in the reference's types. Nothing is judged
+//! The library's nine functions, as the Rust binding calls them through C, answering in the reference's types. Nothing is judged
 //! here: what comes is handed on, and what comes back is handed back, field by field.
 
+use reference::gathered::Gathered;
 use reference::session::Record;
 use reference::slip::{Says, Slip, Written};
 use reference::{Agreement, Answer};
@@ -48,10 +49,24 @@ pub fn finish(record: &Record, room: &mut [u8]) -> (Record, Answer) {
     step(raw::finish(inward(record), room))
 }
 
-pub fn read(agreement: Agreement, keys: &[u8], slip: &[u8]) -> Slip {
-    let read = raw::read(agreed(agreement), keys, slip);
+fn told(read: raw::Slip) -> Slip {
     let raw::Slip { number, year, month, day, amount, calls, lot_at, lot_len } = read;
     Slip { number, year, month, day, amount, calls, lot_at, lot_len }
+}
+
+pub fn read(agreement: Agreement, keys: &[u8], slip: &[u8]) -> Slip {
+    told(raw::read(agreed(agreement), keys, slip))
+}
+
+pub fn gather(record: &Gathered, read: &[u8]) -> Gathered {
+    let Gathered { count, bytes } = *record;
+    let raw::Gathered { count, bytes } = raw::gather(raw::Gathered { count, bytes }, read);
+    Gathered { count, bytes }
+}
+
+pub fn read_gathered(agreement: Agreement, keys: &[u8], record: &Gathered) -> Slip {
+    let Gathered { count, bytes } = *record;
+    told(raw::read_gathered(agreed(agreement), keys, raw::Gathered { count, bytes }))
 }
 
 pub fn write(agreement: Agreement, keys: &[u8], says: &Says, room: &mut [u8]) -> Written {

@@ -1,7 +1,8 @@
 //! differential [SEED [COUNT]]: compares the proved library with the reference on COUNT pseudo-random cases, half of them one
 //! call, a quarter sessions, a quarter slips, and on a quarter as many again, slips that are written; then on one slip of each
 //! algorithm and padding cut and changed everywhere, on the longest message, and on slips written with every m and at the borders of
-//! every field. differential SEED KIND INDEX runs one case again (call, session, slip, write, every, border, rooms, values).
+//! every field. Every slip is gathered from reads too. differential SEED KIND INDEX runs one case again (call, session, slip,
+//! write, every, border, rooms, values).
 //! Ends with status 1 at the first difference, and where, in 10,000 cases or more, an answer that can arise came too seldom.
 
 use differential::run::Run;
@@ -13,19 +14,26 @@ use std::time::Instant;
 const SEED: u64 = 20_261_104;
 const COUNT: u64 = 400_000;
 
+/// The answers to a slip that is read under what was agreed.
+const READ: &[&str] = &["0", "20", "21", "22", "23", "24", "25", "1", "2", "3", "4", "5", "10", "30"];
+
 /// The answers that can arise, of each function; a slip that was written is read back, one that was accepted written again, and one
-/// that was read is read under another agreement than it names.
-const ANSWERS: [(&str, &[&str]); 10] = [
+/// that was read is read under another agreement than it names; both are gathered from reads too.
+const ANSWERS: [(&str, &[&str]); 13] = [
     ("make", &["0", "1", "2", "3", "4", "5", "7", "8", "9", "10"]),
     ("check", &["yes", "no", "1", "2", "3", "4", "5", "7", "8", "9", "10"]),
     ("start", &["0", "1", "2", "3", "4", "5", "8"]),
     ("piece", &["0", "11", "7", "8", "12"]),
     ("finish", &["0", "11", "12", "9", "10"]),
-    ("read", &["0", "20", "21", "22", "23", "24", "25", "1", "2", "3", "4", "5", "10", "30"]),
+    ("read", READ),
     ("other", &["20", "21", "22", "23", "24", "25"]),
     ("write", &["0", "22", "23", "1", "2", "3", "4", "5", "10"]),
     ("back", &["0"]),
     ("again", &["0"]),
+    ("gather", &["empty", "part", "full"]),
+    ("gathered", READ),
+    // Of the forged records few hold a whole slip, and so 1, 2, 3 and 5 are too few to be asked for.
+    ("forged", &["0", "20", "21", "22", "23", "24", "25", "4", "10", "30"]),
 ];
 
 /// A kind's place goes into the draws of its cases.
@@ -63,7 +71,7 @@ fn case(run: &mut Run, seed: u64, kind: usize, index: u64) {
 fn too_seldom(run: &Run) -> Vec<String> {
     let mut seldom = Vec::new();
     for (function, answers) in ANSWERS {
-        let all: u64 = run.answers.get(function).map_or(0, |answers| answers.values().sum());
+        let all = run.calls_of(function);
         let few = answers.iter().filter(|answer| run.often(function, answer) <= all / 1000);
         seldom.extend(few.map(|answer| format!("{function} {answer}")));
     }
@@ -93,6 +101,8 @@ fn whole(run: &mut Run, seed: u64, count: u64) -> bool {
         println!("{function:8}{}", counts.collect::<String>());
     }
     println!("sessions with nothing forged that ended like one call: {}", run.joined);
+    println!("slips gathered and answered like their bytes joined: {}", run.calls_of("gathered"));
+    println!("forged records answered like the bytes they stand for: {}", run.calls_of("forged"));
     let (calls, seconds) = (run.calls(), begin.elapsed().as_secs_f64());
     if count >= 10_000 && !seldom.is_empty() {
         println!("differential: too seldom: {}", seldom.join(", "));

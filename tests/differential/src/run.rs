@@ -2,6 +2,7 @@
 //! The first difference ends the run with a line that repeats it.
 
 use crate::library;
+use reference::gathered::{Gathered, MOST};
 use reference::session::{self, Record};
 use reference::slip::{self, Says, Slip, Written};
 use reference::{hex, Agreement, Answer};
@@ -16,7 +17,8 @@ pub struct Run {
     pub case: String,
     /// Of each function, how often each number was answered; a checked "yes" and "no" stand apart, and so do the slips that are read
     /// because they were written ("back"), written because they were read ("again"), and read under something else than they name
-    /// ("other").
+    /// ("other"), and records that are read ("gathered") or were forged ("forged"). Of a record that is handed back ("gather"),
+    /// whether it is empty, holds a part of what fits, or is full.
     pub answers: BTreeMap<&'static str, BTreeMap<String, u64>>,
     /// Sessions whose tag and calls were those of one call.
     pub joined: u64,
@@ -42,6 +44,11 @@ fn forge(r: &Record) -> String {
     let numbers = format!("{phase} {part} {} {declared} {total}", words(r.agreement));
     let blocks = [&r.keys[..16], &r.keys[16..], &r.chain, &r.held].map(hex).join(" ");
     format!("forge {numbers} {blocks}")
+}
+
+/// A gathered record as two words of the reference's command `record`.
+fn held(Gathered { count, bytes }: &Gathered) -> String {
+    format!("{count} {}", hex(bytes))
 }
 
 /// A room of so many bytes in the middle of a longer buffer of pseudo-random bytes.
@@ -86,6 +93,11 @@ impl Run {
 
     pub fn calls(&self) -> u64 {
         self.answers.values().flat_map(|answers| answers.values()).sum()
+    }
+
+    /// How often a function was called.
+    pub fn calls_of(&self, function: &str) -> u64 {
+        self.answers.get(function).map_or(0, |answers| answers.values().sum())
     }
 
     /// How often a function gave an answer.
@@ -183,6 +195,46 @@ impl Run {
         self.same(&got, &want, || format!("slip {} {} {}", words(agreement), word(keys), word(slip)));
         self.count(function, want.number.to_string());
         want
+    }
+
+    /// One more read, after these bytes came: the record must be that of all of them, which are then what came.
+    pub fn gather(&mut self, record: &Gathered, came: &mut Vec<u8>, read: &[u8]) -> Gathered {
+        came.extend(read);
+        let got = library::gather(record, read);
+        let want = Gathered::of(came);
+        self.same(&got, &want, || format!("the record {} with the read {}", held(record), word(read)));
+        let told = match want.count as usize {
+            0 => "empty",
+            MOST => "full",
+            _ => "part",
+        };
+        self.count("gather", told.to_string());
+        want
+    }
+
+    /// Reads a record of all these bytes.
+    pub fn read_gathered(&mut self, agreement: Agreement, keys: &[u8], record: &Gathered, came: &[u8]) {
+        self.reading_record("gathered", agreement, keys, record, came);
+    }
+
+    /// Reads a record that was forged, and stands for these bytes.
+    pub fn read_forged(&mut self, agreement: Agreement, keys: &[u8], record: &Gathered, came: &[u8]) {
+        self.reading_record("forged", agreement, keys, record, came);
+    }
+
+    fn reading_record(
+        &mut self,
+        function: &'static str,
+        agreement: Agreement,
+        keys: &[u8],
+        record: &Gathered,
+        came: &[u8],
+    ) {
+        let got = library::read_gathered(agreement, keys, record);
+        let want = slip::read(agreement, keys, came);
+        let line = || format!("record {} {} {} -", words(agreement), word(keys), held(record));
+        self.same(&got, &want, line);
+        self.count(function, want.number.to_string());
     }
 
     /// The answer, and the bytes of the room.

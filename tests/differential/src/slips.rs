@@ -1,9 +1,10 @@
 //! Lot slips: whole ones under every algorithm, cut, lengthened, changed in a byte or a bit, with fields left out, doubled or
 //! exchanged, under other keys, under another agreement than they name, and bytes that are no slip. One slip of each kind is cut
 //! everywhere and changed everywhere. A slip that is accepted is written again, and every slip is read once more under an agreement
-//! that it does not meet.
+//! that it does not meet, and once more from a record that it was gathered into; half of them from a forged record too.
 
 use crate::draw::{another, once_in, Settings};
+use crate::gathered;
 use crate::run::{word, words, Run};
 use crate::writes::again;
 use reference::cases::{draw_slip, Random};
@@ -92,6 +93,10 @@ fn read(r: &mut Random, run: &mut Run, s: &Settings, slip: &[u8]) -> u64 {
         again(r, run, s, slip, &read);
     }
     other(r, run, s, slip, read.number);
+    gathered::slip(r, run, s, slip);
+    if once_in(r, 2) {
+        gathered::forged(r, run, s, slip);
+    }
     read.number
 }
 

@@ -1,8 +1,10 @@
 //! Lot slips written: any settings, dates, lots and amounts with independent faults, into rooms of every size about the slip's own.
-//! What is written is read back, and must say the same; an accepted slip is written again, and must come out byte for byte. Every m of
-//! each algorithm and padding is written into rooms at the border, and so is every day, lot byte and amount at the borders of theirs.
+//! What is written is read back, and must say the same, also gathered from reads; an accepted slip is written again, and must come
+//! out byte for byte. Every m of each algorithm and padding is written into rooms at the border, and so is every day, lot byte and
+//! amount at the borders of theirs.
 
 use crate::draw::{far, near, once_in, Settings};
+use crate::gathered;
 use crate::run::{word, words, Room, Run};
 use reference::cases::Random;
 use reference::mac::m_limit;
@@ -99,6 +101,7 @@ fn write(r: &mut Random, run: &mut Run, s: &Settings, says: &Says, size: usize) 
         let read = run.read_back(s.agreement, &s.keys, slip);
         let ours = (length(s, says), read, &slip[14..14 + lot.len()]);
         run.same(&ours, &(slip.len(), wanted, &lot[..]), || format!("slip {} as written", word(slip)));
+        gathered::slip(r, run, s, slip);
     }
     written.number
 }

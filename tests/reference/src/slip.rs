@@ -121,7 +121,7 @@ fn parse(agreement: Agreement, keys: &[u8], slip: &[u8]) -> Result<Slip, u64> {
 /// How often each number was answered, 0 for an accepted slip.
 pub type Tally = std::collections::BTreeMap<u64, u64>;
 
-fn tally(agreement: Agreement, keys: &[u8], slips: impl Iterator<Item = Vec<u8>>) -> Tally {
+pub fn tally(agreement: Agreement, keys: &[u8], slips: impl Iterator<Item = Vec<u8>>) -> Tally {
     let mut tally = Tally::new();
     for slip in slips {
         *tally.entry(read(agreement, keys, &slip).number).or_default() += 1;

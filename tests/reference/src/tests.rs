@@ -1,8 +1,9 @@
 //! Annex A of 000, the borders and runs of document 01, the appendix runs R3 to R7 of the requirements,
-//! the order of refusals, forged records, and slips, read and written.
+//! the order of refusals, forged records, and slips, read, gathered from reads, and written.
 
 use crate::call::LIMIT;
 use crate::cases::{draw_slip, draw_write, Random, Settings};
+use crate::gathered::{firsts, Gathered};
 use crate::session::{finish, piece, start, Record};
 use crate::slip::{self as slips, read, write, Says, Slip, Written};
 use crate::{check, hex, mac, make, padding, sm4, unhex, Agreement, Answer};
@@ -794,6 +795,124 @@ fn drawn_slips_get_every_answer() {
         assert!(often.get(&number) > Some(&20), "{number}: {often:?}");
     }
     assert_eq!(often.len(), 14, "{often:?}");
+}
+
+/// The longest slip: a lot of 32 bytes and a tag of 128 bits.
+fn longest() -> (Agreement, Vec<u8>) {
+    let agreement = agreed(4, 3, 128);
+    let says = Says { year: 2026, month: 11, day: 4, lot: vec![b'~'; 32], amount: 500 };
+    let mut slip = vec![0; 75];
+    assert_eq!(write(agreement, &h(KK), &says, &mut slip), Written { number: 0, length: 75, calls: 7 });
+    (agreement, slip)
+}
+
+/// The longest slip and the accepted ones of appendix R6: what was agreed, the keys, the slip and its calls.
+fn accepted_slips() -> Vec<(Agreement, Vec<u8>, Vec<u8>, u64)> {
+    let (agreement, slip) = longest();
+    let mut rows = vec![(agreement, h(KK), slip, 7)];
+    for ((agreement, keys, seal), calls) in R6.into_iter().zip([3, 3, 2]) {
+        rows.push((agreement, h(keys), p12(seal), calls));
+    }
+    rows
+}
+
+/// The record after reads that came one after the other, each added to what the record before it stands for.
+fn gathered<'a>(reads: impl IntoIterator<Item = &'a [u8]>) -> Gathered {
+    let add = |record: Gathered, read: &[u8]| Gathered::of(&[record.held(), read].concat());
+    reads.into_iter().fold(Gathered::of(&[]), add)
+}
+
+/// An accepted slip is accepted from any two and three reads, and byte by byte with reads of none between; the record is one and
+/// the same. Each proper beginning gets 20, and each lengthening 24.
+#[test]
+fn slips_cut_everywhere() {
+    for (agreement, keys, slip, calls) in accepted_slips() {
+        let (length, whole) = (slip.len(), read(agreement, &keys, &slip));
+        assert_eq!((whole.number, whole.day, whole.calls), (0, 4, calls));
+        let record = gathered([&slip[..]]);
+        assert_eq!((record.count, &record.bytes[..length]), (length as u64, &slip[..]));
+        assert!(record.bytes[length..].iter().all(|byte| *byte == 0));
+        for (one, two) in (0..=length).flat_map(|two| (0..=two).map(move |one| (one, two))) {
+            assert_eq!(gathered([&slip[..one], &slip[one..two], &slip[two..]]), record);
+        }
+        assert_eq!(gathered(slip.chunks(1).flat_map(|byte| [&[], byte, &[]])), record);
+        assert_eq!(read(agreement, &keys, record.held()), whole);
+
+        let count = length as u64;
+        assert_eq!(firsts(agreement, &keys, &slip), [[(0, 1), (20, count)].into(), [(0, count + 1)].into()]);
+        for more in [1, 2, 38, 39, 40, 100, 1000, 70_000] {
+            let long = [&slip[..], &vec![0x01; more]].concat();
+            assert_eq!(read(agreement, &keys, &long), refused(24));
+            assert_eq!(read(agreement, &keys, gathered(long.chunks(7)).held()), refused(24));
+        }
+    }
+}
+
+/// The user's morning: month and day exchanged under the seal of 4 November. Whatever the first read brought, the slip is not
+/// accepted: 20 while bytes are missing, and 30 when all have come. With the day written first, the expiry itself is at fault.
+#[test]
+fn the_morning() {
+    for (agreement, keys, seal) in R6 {
+        let with = |date: &[u8]| [&h(COVERED)[..3], date, &p12(seal)[11..]].concat();
+        let missing = p12(seal).len() as u64;
+        let rewritten = [[(20, missing), (30, 1)].into(), [(30, missing + 1)].into()];
+        assert_eq!(firsts(agreement, &h(keys), &with(b"20260411")), rewritten);
+        let day_first = [[(20, 11), (23, missing - 10)].into(), [(23, missing + 1)].into()];
+        assert_eq!(firsts(agreement, &h(keys), &with(b"04112026")), day_first);
+    }
+}
+
+/// Nothing past the first 76 bytes matters: the record of any bytes is answered as all of them are.
+#[test]
+fn seventy_six_bytes_are_enough() {
+    let (mut random, mut often) = (Random::new(7), slips::Tally::new());
+    let (agreement, longest) = longest();
+    for _ in 0..20_000 {
+        let (slip, s) = draw_slip(&mut random);
+        let (mut came, agreement, keys) = match random.below(8) {
+            0 => (longest.clone(), agreement, h(KK)),
+            _ => (slip, s.agreement, s.keys().to_vec()),
+        };
+        let mut more = vec![0; random.below(100) as usize];
+        random.fill(&mut more);
+        came.extend(more);
+        let record = Gathered::of(&came);
+        assert_eq!((record.count, &record.bytes[76..]), (came.len().min(76) as u64, &[0; 4][..]));
+        let whole = read(agreement, &keys, &came);
+        assert_eq!(read(agreement, &keys, record.held()), whole, "{}", hex(&came));
+        if came.len() > 76 {
+            *often.entry(whole.number).or_default() += 1;
+        }
+    }
+    assert_eq!(often.keys().collect::<Vec<_>>(), [&21, &22, &23, &24]); // none is too short, and none a slip
+}
+
+/// Any count and any bytes: a count over 76 stands for 76 bytes, and what lies past the count is not looked at and does not stay.
+#[test]
+fn forged_gathered_records() {
+    let first = p12(SEAL);
+    let mut bytes = [0xA5; 80];
+    bytes[..37].copy_from_slice(&first);
+    let whole = read(NAMED, &h(K), &first);
+    let far = [(1 << 8) + 37, (1 << 16) + 37, 1 << 32, (1 << 32) + 37, (1 << 63) + 37, u64::MAX];
+    for count in (0..=81).chain(far) {
+        let record = Gathered { count, bytes };
+        assert_eq!(record.held(), &bytes[..count.min(76) as usize]);
+        let wanted = match count {
+            37 => whole,
+            0..=36 => refused(20),
+            _ => refused(24),
+        };
+        assert_eq!(read(NAMED, &h(K), record.held()), wanted, "{count}");
+
+        let rest = first.get(count as usize..).unwrap_or(&[]);
+        let after = Gathered::of(&[record.held(), rest].concat());
+        assert_eq!(after.count, count.clamp(37, 76));
+        let (kept, zeros) = after.bytes.split_at(after.count as usize);
+        assert_eq!(kept, &bytes[..kept.len()]);
+        assert!(zeros.iter().all(|byte| *byte == 0));
+        assert_eq!(read(NAMED, &h(K), kept).number, if count <= 37 { 0 } else { 24 }, "{count}");
+    }
 }
 
 /// A call to `write`: into a room of so many bytes.

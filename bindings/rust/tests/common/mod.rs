@@ -1,7 +1,7 @@
-//! Keys, messages and annex A, for all tests.
+//! Keys, messages, annex A and the slips of the run R6, for all tests.
 #![allow(dead_code)] // each test file uses its own part
 
-use slipseal::Agreement;
+use slipseal::{Agreement, Contents};
 
 pub const MESSAGE: &[u8; 32] = b"This is the test message for mac";
 
@@ -54,4 +54,28 @@ pub fn calls(algorithm: u64, padding: u64, bits: usize) -> u64 {
     let filled = bits.div_ceil(128).max(1);
     let q = [filled, bits / 128 + 1, filled + 1, filled][padding as usize - 1];
     (q + [0, 1, 2, 2, 1, 0, 0, 1][algorithm as usize - 1]) as u64
+}
+
+/// What the slips of R6 say.
+pub const GOOD: Contents<'static> = Contents { year: 2026, month: 11, day: 4, lot: b"A7", amount: 500 };
+
+/// What was agreed on the first of them.
+pub const AGREED: Agreement = agreed(5, 4, 64);
+
+/// What was agreed, seal, bytes of the keys, and calls of the accepted ones.
+pub const R6: [(Agreement, &str, usize, u64); 3] = [
+    (AGREED, "7F000B050440 A47A9299C7B8456C", 16, 3),
+    (agreed(2, 2, 64), "7F000B020240 25BE21F5FDEE57F4", 32, 3),
+    (agreed(1, 1, 12), "7F000501010C A330", 16, 2),
+];
+
+pub const COVERED: &str = "01000832303236313130340200024137030004000001F4";
+
+pub fn slip(seal: &str) -> Vec<u8> {
+    [hex(COVERED), hex(seal)].concat()
+}
+
+/// The first slip of R6.
+pub fn first() -> Vec<u8> {
+    slip(R6[0].1)
 }

@@ -5,15 +5,21 @@
 //!     forge PHASE PART A P M DECLARED TOTAL K K1 CHAIN HELD
 //!     halves A P M KEYS MESSAGE CALLS TAG
 //!     slip A P M KEYS SLIP    changed A P M KEYS SLIP    prefixes A P M KEYS SLIP
+//!     firsts A P M KEYS SLIP    trickled A P M KEYS SLIP SIZE    record A P M KEYS COUNT BYTES READ
 //!     write A P M KEYS YEAR MONTH DAY LOT AMOUNT ROOM
 //!
 //! Words have one blank between them. Numbers are decimal, below 2^64. Bytes are hex digits, at most 4096 bytes, and - is no
 //! bytes. ROOM is a number up to 32, of `write` up to 96: the room's bytes are EE before the call. PHASE is 0 closed, 1 edge,
 //! 2 part (with PART). `write` answers `written LENGTH bytes CALLS calls` and all bytes of the room; or `refused N`, then
 //! `with values` where its length or its calls are not 0, then `untouched`, or `CHANGED` where a byte of the room is another.
+//! `firsts` takes each beginning of the slip as the first read, and counts the answers `alone` and `with the rest`; `trickled`
+//! takes the slip in reads of SIZE bytes, 1 to 4096. `record` takes up to 80 bytes, zeros after them, under any count, and answers
+//! `alone` and `with the read`, and with the record that this read leaves.
 //! Session commands act on one record, closed and zero at first, and print its phase after the answer. `same` tells whether
-//! the last of them left the record as it was, `zeros` feeds so many pieces of so many zero bytes, up to 65536. A line that begins with # and an empty line are printed alone.
+//! the last of them left the record as it was, `zeros` feeds so many pieces of so many zero bytes, up to 65536. A line that begins
+//! with # and an empty line are printed alone.
 
+use reference::gathered::{self, Gathered};
 use reference::session::{self, Record};
 use reference::slip::{self, Says, Tally, Written};
 use reference::{check, hex, make, unhex, Agreement, Answer};
@@ -110,6 +116,14 @@ fn read(agreement: Agreement, keys: &[u8], slip: &[u8]) -> String {
     format!("accepted {date} lot {lot} at {at} length {length} amount {} calls {}", s.amount, s.calls)
 }
 
+/// A record is read as it is, and again with one more read.
+fn forged(agreement: Agreement, keys: &[u8], record: &Gathered, more: &[u8]) -> String {
+    let came = [record.held(), more].concat();
+    let Gathered { count, bytes } = Gathered::of(&came);
+    let (alone, with_read) = (read(agreement, keys, record.held()), read(agreement, keys, &came));
+    format!("alone {alone}; with the read {with_read}; record {count} {}", hex(&bytes))
+}
+
 fn counted(tally: Tally) -> String {
     let accepted = tally.get(&0).unwrap_or(&0);
     let refused = tally.iter().filter(|(number, _)| **number != 0);
@@ -164,6 +178,21 @@ impl State {
             }
             ["prefixes", a, p, m, keys, slip] => {
                 Some(counted(slip::prefixes(agreed(a, p, m)?, &bytes(keys)?, &bytes(slip)?)))
+            }
+            ["firsts", a, p, m, keys, slip] => {
+                let [alone, with_rest] = gathered::firsts(agreed(a, p, m)?, &bytes(keys)?, &bytes(slip)?);
+                Some(format!("alone {}; with the rest {}", counted(alone), counted(with_rest)))
+            }
+            ["trickled", a, p, m, keys, slip, size] => {
+                let size = number(size).filter(|size| (1..=4096).contains(size))?;
+                let came: Vec<u8> = bytes(slip)?.chunks(size as usize).flatten().copied().collect();
+                Some(read(agreed(a, p, m)?, &bytes(keys)?, &came))
+            }
+            ["record", a, p, m, keys, count, held, more] => {
+                let mut held = bytes(held)?;
+                held.resize(held.len().max(80), 0);
+                let record = Gathered { count: number(count)?, bytes: held.try_into().ok()? };
+                Some(forged(agreed(a, p, m)?, &bytes(keys)?, &record, &bytes(more)?))
             }
             ["write", a, p, m, keys, year, month, day, lot, amount, size] => {
                 let (year, month, day) = (number(year)?, number(month)?, number(day)?);
