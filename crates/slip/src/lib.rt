@@ -145,12 +145,15 @@ pub fn lot<'a>(agreement: settings::Agreement, keys: &[u8], slip: &'a [u8]) -> &
 // ---- gathered
 
 // The bytes of a slip that came so far, and zeros after them. Only the first 76 can matter, so no more are kept; the last four places
-// stay zero and are not read, and a count over 76 is read as 76. A record of zeros is empty.
+// stay zero and are not read (they end the struct in C), and a count over 76 is read as 76. A record of zeros is empty.
 #[repr(C)]
 pub struct Gathered {
     pub count: usize,
     pub bytes: [u8; 80],
 }
+
+// So many bytes are kept: a slip has 75 at most, and one more tells that it is longer.
+const MOST_KEPT: usize = 76;
 
 // The first so many bytes, or all where there are fewer.
 fn first(s: &[u8], count: usize) -> &[u8]
@@ -166,7 +169,7 @@ fn first(s: &[u8], count: usize) -> &[u8]
 fn held(bytes: &[u8], count: usize) -> &[u8]
     ensures { λ r. ⌜ now r ≡ take count (take most (now (bytes .entry))) ⌝ }
 {
-    first(first(bytes, 76), count)
+    first(first(bytes, MOST_KEPT), count)
 }
 
 // Puts the bytes of one part, and those of another after them, into the room.
@@ -197,7 +200,7 @@ impl Gathered {
         let before = self.bytes;
         let kept = held(&before, self.count);
         let at = kept.len();
-        let new = first(more, 76 - at);
+        let new = first(more, MOST_KEPT - at);
         let mut bytes = [0u8; 80];
         put_both(kept, new, &mut bytes);
         Gathered {
