@@ -19,7 +19,7 @@ use Rattle.fields.specs.Field.{outside, anyOutside, twoBytes, lengthOf, 
 use Rattle.fields.specs.Date.{twoDigits, yearOf, monthOf, dayOf, dateWrong}
 use Rattle.fields.specs.Layout.{lotAt, lotField, amountField, sealField, amountOf, amountWrong, expiryFaults, lotFaults, amountFaults, sealFaults, layoutFaults}
 use Rattle.fields.specs.declared.Row.{Row}
-use Rattle.fields.proofs.Formed.{Within, Formed, field-numbered, end-whole}
+use Rattle.fields.proofs.Formed.{Within, inside, Formed, field-numbered, end-whole}
 use Rattle.fields.proofs.Laid.{LaidOut}
 use Rattle.fields.proofs.Whole.{after-lot, after-amount}
 use Rattle.fields.proofs.FirstBytes.{Alike, byte-alike, bytes-alike, digits-alike, length-alike, value-alike}
@@ -27,10 +27,6 @@ use Rattle.fields.proofs.FirstBytes.{Alike, byte-alike, bytes-alike, di
 -- one of the two is a beginning of the other
 abbrev pub Along : List ℕ → List ℕ → Type 0
 Along f g = take (length g) f ≡ take (length f) g
-
-not-outside : (least most x : ℕ) → Within least most x → outside least most x ≡ false
-unfolding outside
-not-outside least most x h = rw (le-ltb x least (h .low), le-ltb most x (h .high)) refl
 
 module _ (f g : List ℕ) (along : Along f g) where
   -- they agree as far as both go
@@ -65,7 +61,7 @@ module _ (row : Row) (f g : List ℕ) (ok : Formed row f) (along : Along f g) wh
       let head = along-alike f g along 3 (omega (arith, ok .whole)) three in
       let long = length-alike 3 f g head (omega arith) in
       let label = sym (byte-alike 3 f g head 0 (omega arith)) ∙ ok .labelled in
-      (long, (ap not (eq-eqb (getD g 0 0) (row .label) label), ap (outside (row .least) (row .most)) (sym long) ∙ not-outside (row .least) (row .most) (lengthOf f) (ok .allowed)))
+      (long, (ap not (eq-eqb (getD g 0 0) (row .label) label), ap (outside (row .least) (row .most)) (sym long) ∙ inside (row .least) (row .most) (lengthOf f) (ok .allowed)))
 
   -- cut in its head or in its value
   cut : length g < 3 + lengthOf f → firstOf (fieldFaults row g) ≡ 20
@@ -134,7 +130,7 @@ module _ (f g : List ℕ) (along : Along f g) where
   unfolding amountOf
   amount-alike ok there right =
       let at : (i : ℕ) → i + 1 < 7 → twoBytes f i ≡ twoBytes g i = λ i h. bytes-alike (3 + lengthOf f) f g (alike amountRow f g ok along there) i (omega (arith, ok .allowed .low)) in
-      clear-first (passed (rw (at 3 (omega arith), at 5 (omega arith)) at (not-outside 1 1000000 (amountOf f) right)) done)
+      clear-first (passed (rw (at 3 (omega arith), at 5 (omega arith)) at (inside 1 1000000 (amountOf f) right)) done)
 
 -- ---- the seal, the last field
 

@@ -32,6 +32,10 @@ within least most x e =
     let b = neither (ltb x least) (ltb most x) e in
     record { low = ltb-false x least (b .0); high = ltb-false most x (b .1) }
 
+pub inside : (least most x : ℕ) → Within least most x → outside least most x ≡ false
+unfolding outside
+inside least most x h = rw (le-ltb x least (h .low), le-ltb most x (h .high)) refl
+
 pub within-all : (least most : ℕ) (s : List ℕ) → anyOutside least most s ≡ false → (i : ℕ) → i < length s → Within least most (getD s i 0)
 unfolding anyOutside
 within-all least most [] e i h = absurd (omega arith)

@@ -8,8 +8,9 @@ use Prim.Native.Nat.{ℕ, _+_, _-_, _≤_}
 use native.Mathlib.Omega.{arith}
 use lib.ListN.{length, take, drop, replicate, length-append, length-take}
 use lib.Seq.{take-all, take-at, take-take}
-use Rattle.bits.proofs.Lists.{take-append, drop-replicate}
+use Rattle.bits.proofs.Lists.{take-append}
 use Rattle.writing.specs.Writing.{filledTo}
+use Rattle.writing.proofs.Sayable.{over-zeros}
 use Rattle.slip.specs.declared.Gathered.{Gathered}
 use Rattle.slip.specs.Gathering.{most, held, gatheredOf, addOf}
 
@@ -45,22 +46,17 @@ first-alone h s =
 
 -- ---- the record that `add` makes
 
--- bytes put over zeros
-over-zeros : (a b bytes : List ℕ) → length a + length b ≤ 80 → bytes ≡ a ++ (b ++ drop (length a + length b) (replicate 80 0)) → bytes ≡ filledTo 80 (a ++ b)
-unfolding filledTo
-over-zeros a b bytes few e =
-    e ∙ sym (append-assoc a b _)
-    ∙ ap (λ (l : List ℕ). (a ++ b) ++ l) (drop-replicate 0 (length a + length b) 80 few ∙ ap (λ (k : ℕ). replicate (80 - k) 0) (sym (length-append a b)))
-
 pub added : (g : Gathered) (s kept new bytes : List ℕ) → kept ≡ held g → new ≡ take (most - length kept) s
     → bytes ≡ kept ++ (new ++ drop (length kept + length new) (replicate 80 0))
     → record { count = length kept + length new; bytes = bytes } ≡ addOf g s
 unfolding addOf gatheredOf
 added g s kept new bytes k n e =
     let few : length kept ≤ most = omega (arith, ap length k, held-few g) in
+    let sum : length (kept ++ new) ≡ length kept + length new = length-append kept new in
     let all : kept ++ new ≡ take most (held g ++ s) = ap (λ (l : List ℕ). kept ++ l) n ∙ joined-first kept s few ∙ ap (λ (l : List ℕ). take most (l ++ s)) k in
-    let sum : length kept + length new ≤ 80 = omega (arith, few, ap length n, length-take (most - length kept) s) in
-    ap₂ (λ (c : ℕ) (b : List ℕ). record { count = c; bytes = b }) (sym (length-append kept new) ∙ ap length all) (over-zeros kept new bytes sum e ∙ ap (filledTo 80) all)
+    let over : bytes ≡ (kept ++ new) ++ drop (length (kept ++ new)) (replicate 80 0) = e ∙ sym (append-assoc kept new _) ∙ ap (λ (i : ℕ). (kept ++ new) ++ drop i (replicate 80 0)) (sym sum) in
+    let fits : length (kept ++ new) ≤ 80 = omega (arith, sum, few, ap length n, length-take (most - length kept) s) in
+    ap₂ (λ (c : ℕ) (b : List ℕ). record { count = c; bytes = b }) (sym sum ∙ ap length all) (over-zeros 80 (kept ++ new) bytes fits over ∙ ap (filledTo 80) all)
 
 -- ---- the record that is made of bytes
 

@@ -21,10 +21,10 @@ use Rattle.fields.proofs.Inside.{lot-there, seal-there, seal-long}
 use Rattle.fields.proofs.Whole.{after-lot, after-amount}
 use Rattle.fields.proofs.Written.{written-length, written-value, written-after, written-clear}
 use Rattle.fields.proofs.Dates.{Real, real-date, calendar}
-use Rattle.fields.proofs.Formed.{Within, field-numbered, end-whole}
+use Rattle.fields.proofs.Formed.{Within, field-numbered, end-whole, inside}
 use Rattle.fields.proofs.Laid.{expiry-numbered, lot-numbered, amount-numbered}
 use Rattle.fields.specs.declared.Row.{Row}
-use Rattle.writing.proofs.Sayable.{Sayable, inside}
+use Rattle.writing.proofs.Sayable.{Sayable}
 use Rattle.writing.specs.Writing.{Says, said, digitOf, expiryValue, amountValue, coveredOf}
 
 -- ---- numbers of two digits and of four

@@ -1,20 +1,22 @@
 -- What is not refused: the lot, the amount and the date are as their rules ask (`sayable`). And what `lay_out` answers: the
 -- refusal, or the covered bytes first.
 -- Assumes nothing.
-use mathlib.Core.Path.{_≡_, refl, sym, _∙_}
+use mathlib.Core.Path.{_≡_, refl, sym, ap, _∙_}
 use mathlib.Core.Bool.{Bool, true, false}
-use Prim.Native.Nat.{ℕ, _+_}
+use mathlib.Core.List.{List, _++_}
+use Prim.Native.Nat.{ℕ, _+_, _≤_}
 use native.Mathlib.Omega.{arith}
-use lib.ListN.{length, take, length-append}
+use lib.ListN.{length, take, drop, replicate, length-append}
 use lib.Seq.{take-at}
 use lib.Dec.{eqb}
-use borrow.Author.Tests.{le-ltb, eqb-true, eqb-false, ne-eqb}
+use borrow.Author.Tests.{eqb-true, eqb-false, ne-eqb}
 use Rattle.bits.specs.Choice.{pick, firstOf}
+use Rattle.bits.proofs.Lists.{drop-replicate}
 use Rattle.bits.proofs.Faults.{Clear, passed, done, Numbered, also, none, first-clear}
 use Rattle.fields.specs.Format.{amountRow}
-use Rattle.fields.specs.Field.{outside, anyOutside, fieldOf}
+use Rattle.fields.specs.Field.{anyOutside, fieldOf}
 use Rattle.fields.specs.Date.{dateWrong}
-use Rattle.fields.proofs.Formed.{Within, within, neither}
+use Rattle.fields.proofs.Formed.{Within, within, inside, neither}
 use Rattle.writing.specs.declared.Covered.{Covered}
 use Rattle.writing.specs.Writing.{Says, valueWrong, saysFaults, expiryValue, amountValue, coveredOf, filledTo, layOut}
 
@@ -43,10 +45,6 @@ pub sayable : (x : Says) → firstOf (saysFaults x) ≡ 0 → Sayable x
 sayable x e = clear-says x (first-clear (saysFaults x) (says-numbered x) e)
 
 -- and the other way round
-pub inside : (least most x : ℕ) → Within least most x → outside least most x ≡ false
-unfolding outside
-inside least most x h = rw (le-ltb x least (h .low), le-ltb most x (h .high)) refl
-
 pub unrefused : (x : Says) → Sayable x → firstOf (saysFaults x) ≡ 0
 unfolding saysFaults valueWrong firstOf pick
 unrefused x ok = rw (inside 1 32 (length (x .lot)) (ok .lot-length), ok .lot-bytes, inside 1 1000000 (x .amount) (ok .microlitres), ok .date) refl
@@ -56,6 +54,11 @@ unfolding coveredOf expiryValue amountValue
 length-covered x = omega (arith, length-append (x .lot) (fieldOf amountRow (amountValue (x .amount))))
 
 -- ---- what is laid out
+
+-- bytes put over zeros
+pub over-zeros : (k : ℕ) (s bytes : List ℕ) → length s ≤ k → bytes ≡ s ++ drop (length s) (replicate k 0) → bytes ≡ filledTo k s
+unfolding filledTo
+over-zeros k s bytes few e = e ∙ ap (λ (l : List ℕ). s ++ l) (drop-replicate 0 (length s) k few)
 
 module _ (x : Says) where
   pub refused-out : ¬ (firstOf (saysFaults x) ≡ 0) → layOut x .refusal ≡ firstOf (saysFaults x)

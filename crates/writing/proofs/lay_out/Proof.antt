@@ -8,10 +8,9 @@ use lib.ListN.{length, drop, replicate}
 use borrow.Author.Tests.{eq-eqb, ne-eqb}
 use Rattle.bits.specs.Choice.{firstOf}
 use Rattle.bits.proofs.Choice.{hit, miss}
-use Rattle.bits.proofs.Lists.{drop-replicate}
 use Rattle.writing.specs.Writing.{Says, said, saysFaults, coveredOf, filledTo, layOut}
 use Rattle.writing.specs.declared.Covered.{Covered}
-use Rattle.writing.proofs.Sayable.{Sayable, sayable, length-covered}
+use Rattle.writing.proofs.Sayable.{Sayable, sayable, length-covered, over-zeros}
 use borrow.Author.Needs.{needs}
 use Rattle.writing.proofs.lay_out.Statement.{statement}
 use Rattle.writing.proofs.lay_out.Tie as tie
@@ -25,11 +24,9 @@ put-covered-requires c κs =
     let ok = sayable _ (sym (c .before .before .refusal .ensures) ∙ c .before .if1 .left) in
     (ok .lot-length .high, omega arith)
 
--- the bytes over zeros, and their number
-over-zeros : (x : Says) (bytes : List ℕ) → length (x .lot) ≤ 32 → bytes ≡ coveredOf x ++ drop (21 + length (x .lot)) (replicate 53 0) → bytes ≡ filledTo 53 (coveredOf x)
-unfolding filledTo
-over-zeros x bytes few e =
-    e ∙ ap (λ (l : List ℕ). coveredOf x ++ l) (ap (λ (k : ℕ). drop k (replicate 53 0)) (sym (length-covered x)) ∙ drop-replicate 0 (length (coveredOf x)) 53 (omega (arith, length-covered x)))
+-- the covered bytes over zeros
+covered-zeros : (x : Says) (bytes : List ℕ) → length (x .lot) ≤ 32 → bytes ≡ coveredOf x ++ drop (21 + length (x .lot)) (replicate 53 0) → bytes ≡ filledTo 53 (coveredOf x)
+covered-zeros x bytes few e = over-zeros 53 (coveredOf x) bytes (omega (arith, length-covered x)) (e ∙ ap (λ (k : ℕ). coveredOf x ++ drop k (replicate 53 0)) (sym (length-covered x)))
 
 returns-2 : tie.Need-returns-2
 unfolding layOut
@@ -39,7 +36,7 @@ returns-2 c =
     let a = tested .before .before .before .args in
     let x = said (a .year) (a .month) (a .day) (a .lot .now) (a .amount) in
     let clear : firstOf (saysFaults x) ≡ 0 = sym (tested .before .refusal .ensures) ∙ tested .if1 .left in
-    hit _ _ _ _ (eq-eqb _ 0 clear) (rw (over-zeros x (put .put-covered .last .1 .1 .1 .1 .1 .0) (sayable x clear .lot-length .high) (put .put-covered .ensures), length-covered x) refl)
+    hit _ _ _ _ (eq-eqb _ 0 clear) (rw (covered-zeros x (put .put-covered .last .1 .1 .1 .1 .1 .0) (sayable x clear .lot-length .high) (put .put-covered .ensures), length-covered x) refl)
 
 pub lay-out-spec : {M : Type 1} → statement M
 lay-out-spec = tie.close (tie.spec (λ c κs. search needs) returns (λ c. search needs) put-covered-requires (λ c. search needs) returns-2)
