@@ -4,6 +4,7 @@
 use mathlib.Core.List.{List, _++_}
 use Prim.Native.Nat.{ℕ}
 use lib.ListN.{length, take}
+use denote.Ref.{RefT, ptr, now}
 use Rattle.writing.specs.Writing.{filledTo}
 use Rattle.slip.specs.declared.Gathered.{Gathered}
 
@@ -14,6 +15,10 @@ most = 76
 -- the bytes that a record holds; a count over 76 is read as 76
 unfoldable pub held : Gathered → List ℕ
 held g = take (g .count) (take most (g .bytes))
+
+-- and as that very part of its bytes, which are lent
+abbrev pub heldPart : RefT (List ℕ) → ℕ → (ℕ × ℕ) × List ℕ
+heldPart bytes count = (ptr bytes, take count (take most (now bytes)))
 
 -- the record of these bytes: the first 76, their number, and zeros after them
 unfoldable pub gatheredOf : List ℕ → Gathered

@@ -10,8 +10,8 @@ ghost use lib.ListN.{length, take, drop};
 ghost use Rattle.bits.specs.Choice.{firstOf};
 ghost use Rattle.fields.specs.Layout.{placesOf, sealField, covered, layoutFaults};
 ghost use Rattle.slip.specs.Slip.{agreementUnmet, contentsOf, refusedSlip, readOf};
-ghost use Rattle.slip.specs.Part.{seen, lotPart, lotPartIn};
-ghost use Rattle.slip.specs.Gathering.{most, held, gatheredOf, addOf};
+ghost use Rattle.slip.specs.Part.{seen, lotPart, lotPartIn, firstPart};
+ghost use Rattle.slip.specs.Gathering.{held, heldPart, gatheredOf, addOf};
 ghost use Rattle.mac.specs.Tag.{bytesFor};
 ghost use Rattle.writing.specs.Writing.{said};
 ghost use Rattle.slip.specs.Printed.{sealedBy, unwrittenSlip, sealHead, putOf, writeUnder, writeOf};
@@ -157,7 +157,7 @@ const MOST_KEPT: usize = 76;
 
 // The first so many bytes, or all where there are fewer.
 fn first(s: &[u8], count: usize) -> &[u8]
-    ensures { λ r. ⌜ now r ≡ take count (now (s .entry)) ⌝ }
+    ensures { λ r. ⌜ seen r ≡ firstPart (s .entry) count ⌝ }
 {
     if s.len() < count {
         return s;
@@ -165,9 +165,9 @@ fn first(s: &[u8], count: usize) -> &[u8]
     &s[..count]
 }
 
-// The bytes that a record of these bytes and this count holds.
-fn held(bytes: &[u8], count: usize) -> &[u8]
-    ensures { λ r. ⌜ now r ≡ take count (take most (now (bytes .entry))) ⌝ }
+// The bytes that a record of this count holds, as that very part of its bytes or of a copy of them.
+pub fn held(bytes: &[u8], count: usize) -> &[u8]
+    ensures { λ r. ⌜ seen r ≡ heldPart (bytes .entry) count ⌝ }
 {
     first(first(bytes, MOST_KEPT), count)
 }

@@ -283,7 +283,8 @@ pub extern "C" fn slipseal_read_gathered(
 ) -> Slip
     ensures { λ r. ⌜ r ≡ toldSlip (readOf agreement (now (keys .entry)) (held came)) ⌝ }
 {
-    told_slip(came.read(agreement, keys))
+    let bytes = came.bytes;
+    slipseal_read(agreement, keys, slip::held(&bytes, came.count))
 }
 
 #[no_mangle]
