@@ -1,20 +1,23 @@
 -- What the functions hand back is what the specs say. A start is the refusals of its settings and then that of the declared length
--- (`start-refused`, `start-sound`); the tag of an open record has m bits, so that the first bytes of a block that begins with it are
--- its bytes (`room-is`); the calls counted are those of the definition's list (`calls-listed`).
+-- (`start-refused`, `start-sound`); the start of a check is a start, then 10, then the purpose (`check-refused`, `check-ten`,
+-- `check-fresh`); the tag of an open record has m bits, so that the first bytes of a block that begins with it are its bytes
+-- (`room-is`, `judged-is`); the calls counted are those of the definition's list (`calls-listed`).
 -- Assumes nothing.
-use mathlib.Core.Path.{_≡_, sym, ap, _∙_}
-use mathlib.Core.Bool.{false}
+use mathlib.Core.Path.{_≡_, refl, sym, ap, ap₂, _∙_, subst}
+use mathlib.Core.Bool.{Bool, true, false}
 use mathlib.Core.List.{List, [], _∷_, _++_}
-use Prim.Native.Nat.{ℕ, _+_, _≤_}
+use Prim.Native.Nat.{ℕ, _+_, _≤_, _<_}
+use native.Mathlib.Decide.{decLt}
 use native.Mathlib.Omega.{arith}
 use borrow.Author.Tests.{ne-eqb}
-use lib.ListN.{length, take, drop}
-use Rattle.bits.specs.Choice.{_given_}
-use Rattle.bits.specs.Str.{bytesBits, zeros}
-use Rattle.block.specs.Block.{storage, filledBlock}
+use lib.ListN.{List·getD-eq-default, length, take, drop, getD, length-take}
+use lib.Seq.{getD-take}
+use Rattle.bits.specs.Choice.{pick, Fault, _given_, firstOf}
+use Rattle.bits.specs.Str.{bytesBits, zeros, sameB}
+use Rattle.block.specs.Block.{storage, front, filledBlock}
 use Rattle.bits.proofs.Choice.{miss}
-use Rattle.bits.proofs.Faults.{first-append, first-append-clear}
-use Rattle.bits.proofs.Same.{Bytes}
+use Rattle.bits.proofs.Faults.{Numbered, none, also, numbered-append, first-append, first-append-clear}
+use Rattle.bits.proofs.Same.{Bytes, sameB-bytes}
 use Rattle.bits.proofs.Strings.{length-zeros}
 use Rattle.mac.specs.declared.Row.{Row}
 use Rattle.mac.specs.Padding.{methodAt, blockCount}
@@ -23,22 +26,39 @@ use Rattle.mac.specs.Tag.{bytesFor, tagBytes}
 use Rattle.cipher.specs.Cipher.{Cipher}
 use Rattle.cipher.specs.Ciphers.{cipherAt}
 use Rattle.cipher.proofs.Laws.{sm4-width, width-at}
-use Rattle.mac.proofs.TagBytes.{tagBytes-block}
+use Rattle.mac.proofs.TagBytes.{tagBytes-block, tagBytes-fit}
 use Rattle.mac.proofs.Promised.{Promised, promised-at}
 use Rattle.keys.specs.Given.{keysOf, givenOf}
 use Rattle.settings.specs.Faults.{settingsFaults, settingsRefusal}
-use Rattle.settings.specs.Answers.{settingsOf, checkedOf}
+use Rattle.settings.specs.Answers.{numberOf, settingsOf, checkedOf}
 use Rattle.settings.specs.declared.Agreement.{Agreement}
 use Rattle.settings.specs.declared.Settings.{Settings}
 use Rattle.settings.specs.declared.Checked.{Checked}
 use Rattle.settings.specs.declared.Checked.the-variants.{Sound, Unsound}
-use Rattle.settings.proofs.Sound.{settings-alone, unsound-is, sound-is}
-use Rattle.message.specs.Faults.{tooFewBlocks}
+use Rattle.settings.specs.declared.Outcome.{Outcome}
+use Rattle.settings.specs.declared.Outcome.the-variants.{Accepted, Yes, No}
+use Rattle.settings.proofs.Numbers.{number-chosen, sound-chosen}
+use Rattle.settings.proofs.Sound.{settings-alone, settings-numbered, unsound-is, sound-is}
+use Rattle.message.specs.Faults.{tooFewBlocks, tagLengthWrong}
 use Rattle.message.proofs.Taken.{enough-held}
 use Rattle.chain.proofs.Standing.{reached-at, finish-long}
+use Rattle.session.specs.declared.Purpose.the-variants.{Checking}
 use Rattle.session.specs.declared.Session.{Session}
-use Rattle.session.specs.Record.{keysIn, stateIn, declaredTooLong}
-use Rattle.session.specs.Calls.{startFaults, refusedStart, startedBy, startOf, startUnder, tagIn, callsIn}
+use Rattle.session.specs.declared.Step.{Step}
+use Rattle.session.specs.Record.{keysIn, stateIn, aimed, declaredTooLong}
+use Rattle.session.specs.Calls.{startFaults, refusedStart, startedBy, startOf, startUnder, startCheckFaults, freshCheckOf, startCheckOf, tagIn, callsIn, judgedOf}
+
+-- the shape of what comes: an answer with a record
+abbrev pub of-step : Step → Outcome
+of-step r = r .answer
+
+-- the first bytes of bytes are bytes
+take-fits : (n : ℕ) (xs : List ℕ) → ((i : ℕ) → getD xs i 0 < 256) → (i : ℕ) → getD (take n xs) i 0 < 256
+take-fits n xs fit i = go (decLt i n)
+  where
+    go : Dec (i < n) → getD (take n xs) i 0 < 256
+    go (yes l) = subst (λ (x : ℕ). x < 256) (sym (getD-take n xs i 0 l)) (fit i)
+    go (no l) = subst (λ (x : ℕ). x < 256) (sym (List·getD-eq-default (take n xs) 0 {n = i} (omega (arith, l, length-take n xs)))) (omega arith)
 
 -- ---- a start: u are the keys in use, c what the builder answered
 
@@ -63,7 +83,52 @@ module _ (A : Agreement) (s : List ℕ) (d : ℕ) (u : Keys) (eu : u ≡ keysOf 
       let later = first-append-clear (settingsFaults A (length s) (keysOf s)) (8 given declaredTooLong (A .padding) d ∷ []) (settings-alone A (length s) (keysOf s)) (both .0) in
       λ i. startedBy (sym later i) A (eg i) (eu i) d
 
--- ---- the bytes that are put into the room
+-- ---- the start of a check: begun is what the start handed back, and no its number
+
+module _ (A : Agreement) (s : List ℕ) (d : ℕ) where
+  pub start-faults : numberOf (startOf A s d .answer) ≡ firstOf (startFaults A s d)
+  unfolding startOf startedBy refusedStart numberOf
+  start-faults = number-chosen of-step (firstOf (startFaults A s d)) _ _ refl refl
+
+  pub start-alone : Numbered (startFaults A s d)
+  unfolding startFaults
+  start-alone = settings-numbered A (length s) (keysOf s) _ (also {k = 8} (omega arith) none)
+
+  pub check-numbered : (tag : ℕ) → Numbered (startCheckFaults A s d tag)
+  unfolding startCheckFaults
+  check-numbered tag = numbered-append start-alone (also {k = 10} (omega arith) none)
+
+module _ (A : Agreement) (s : List ℕ) (d : ℕ) (tag : List ℕ) (begun : Step) (same : begun ≡ startOf A s d) (no : ℕ) (told : no ≡ numberOf (begun .answer)) where
+  start-no : no ≡ firstOf (startFaults A s d)
+  start-no = told ∙ ap (λ (r : Step). numberOf (r .answer)) same ∙ start-faults A s d
+
+  pub check-refused : ¬ (no ≡ 0) → refusedStart no ≡ startCheckOf A s d tag
+  unfolding startCheckOf startCheckFaults
+  check-refused u =
+      let first : no ≡ firstOf (startCheckFaults A s d (length tag)) = start-no ∙ sym (first-append (startFaults A s d) _ (λ z. u (start-no ∙ z))) in
+      miss _ _ _ _ (ne-eqb _ 0 (λ z. u (first ∙ z))) (ap refusedStart first)
+
+  module _ (accepted : no ≡ 0) where
+    -- what is left of the order
+    last-ten : firstOf (startCheckFaults A s d (length tag)) ≡ firstOf (10 given tagLengthWrong (A .m) (length tag) ∷ [])
+    unfolding startCheckFaults
+    last-ten = first-append-clear (startFaults A s d) _ (start-alone A s d) (sym start-no ∙ accepted)
+
+    pub check-ten : (wrong : Bool) → wrong ≡ tagLengthWrong (A .m) (length tag) → wrong ≡ true → refusedStart 10 ≡ startCheckOf A s d tag
+    unfolding startCheckOf firstOf pick
+    check-ten wrong e w =
+        let ten : firstOf (startCheckFaults A s d (length tag)) ≡ 10 = last-ten ∙ ap (λ (b : Bool). firstOf (10 given b ∷ [])) (sym e ∙ w) in
+        rw ten refl
+
+    pub check-fresh : (wrong : Bool) → wrong ≡ tagLengthWrong (A .m) (length tag) → wrong ≡ false → (r : Session) (e : List ℕ) → e ≡ front tag → r ≡ aimed Checking e (begun .session)
+        → record { answer = Accepted; session = r } ≡ startCheckOf A s d tag
+    unfolding startCheckOf startOf startedBy firstOf freshCheckOf pick
+    check-fresh wrong ew w r e ef er =
+        let sound : firstOf (startCheckFaults A s d (length tag)) ≡ 0 = last-ten ∙ ap (λ (b : Bool). firstOf (10 given b ∷ [])) (sym ew ∙ w) in
+        let fresh = ap (λ (t : Step). t .session) (same ∙ sound-chosen of-step _ _ _ (sym start-no ∙ accepted)) in
+        sym (sound-chosen of-step _ _ _ sound ∙ ap₂ (λ (x : List ℕ) (t : Session). record { answer = Accepted; session = aimed Checking x t }) (sym ef) (sym fresh) ∙ ap (λ (t : Session). record { answer = Accepted; session = t }) (sym er))
+
+-- ---- the bytes that are put into the room, and those that are compared
 
 module _ (s : Session) (hv : length (s .hold .value) ≡ 16) (hh : length (s .hold .held) ≡ 16) (hm : s .agreement .m ≤ storage) where
   -- the tag has m bits
@@ -79,6 +144,16 @@ module _ (s : Session) (hv : length (s .hold .value) ≡ 16) (hh : length (s .ho
   room-is b room last n sixteen e hn h =
       h ∙ ap (λ (k : ℕ). take k b ++ drop k room) hn
       ∙ ap (λ (w : List ℕ). w ++ drop (bytesFor (s .agreement .m)) room) (tagBytes-block (tagIn s) b (s .agreement .m) tag-long hm (sixteen .long) (λ i. sixteen .each i .fits) e)
+
+  -- of the expected bytes and of such a block the first n are compared
+  pub judged-is : (b : List ℕ) (n calls : ℕ) (same : Bool) → Bytes 16 b → Bytes 16 (s .expected) → bytesBits b ≡ filledBlock (tagIn s) → n ≡ bytesFor (s .agreement .m) → calls ≡ callsIn s
+      → same ≡ sameB (bytesBits (take n (s .expected))) (bytesBits (take n b)) → pick same (Yes calls) (No calls) ≡ judgedOf s
+  unfolding judgedOf
+  judged-is b n calls same sixteen expected e hn hc h =
+      ap₂ (λ (c : ℕ) (t : Bool). pick t (Yes c) (No c)) hc
+      (h ∙ ap (λ (k : ℕ). sameB (bytesBits (take k (s .expected))) (bytesBits (take k b))) hn
+      ∙ ap (λ (w : List ℕ). sameB (bytesBits (take (bytesFor (s .agreement .m)) (s .expected))) (bytesBits w)) (tagBytes-block (tagIn s) b (s .agreement .m) tag-long hm (sixteen .long) (λ i. sixteen .each i .fits) e)
+      ∙ sameB-bytes _ _ (take-fits (bytesFor (s .agreement .m)) (s .expected) (λ i. expected .each i .fits)) (tagBytes-fit (tagIn s)))
 
 -- ---- the calls: q and the further calls of the row are as many as the list for so many bits has
 

@@ -36,11 +36,11 @@ use Rattle.tag.specs.OneCall.{oneCallFaults, madeBy, makeOf}
 use Rattle.tag.proofs.Numbers.{madeOf, make-faults, sound-made, made-of}
 use Rattle.session.specs.declared.Session.{Session}
 use Rattle.session.specs.declared.Step.{Step}
-use Rattle.session.specs.Record.{standing}
-use Rattle.session.specs.Calls.{startFaults, freshOf, declaredAt, startOf, fallsShort, finishFaults, finishOf}
+use Rattle.session.specs.Record.{standing, notMaking}
+use Rattle.session.specs.Calls.{startFaults, freshOf, declaredAt, startOf, fallsShort, endFaults, finishFaults, finishOf}
 use Rattle.session.proofs.Open.{Open, opens, ended}
 use Rattle.session.proofs.Stood.{stood}
-use Rattle.session.proofs.Joined.{Act, Running, ending, record-after, message, finished, finish-faults, finish-sound, finish-runs, declared-met, finish-stood, after-stood, joined-bits}
+use Rattle.session.proofs.Joined.{Act, Running, ending, Begun, to-make, started, stoodAt, record-after, message, finished, finish-faults, finish-sound, finish-runs, declared-met, finish-stood, after-stood, joined-bits}
 use Rattle.session.proofs.StaysOpen.{three-no, start-clear}
 
 -- bytes of which the first l bits are the message x
@@ -53,29 +53,33 @@ unfolding bytesFor
 length-held bytes l x h = ap length (sym (h .bits)) ∙ length-bitsOf bytes l (omega (arith, h .long))
 
 -- what is left of both orders: 9, then 10
-abbrev lastTwo : Agreement → ℕ → ℕ → ℕ
-lastTwo A l room = firstOf (9 given tooFewBlocks (settingsOf A) l ∷ 10 given roomShort (A .m) room ∷ [])
+abbrev pub lastTwo : Agreement → ℕ → Bool → ℕ
+lastTwo A l ten = firstOf (9 given tooFewBlocks (settingsOf A) l ∷ 10 given ten ∷ [])
 
 -- a fault that is not there is passed over
 past : (k : ℕ) (b : Bool) (fs : List Fault) → b ≡ false → firstOf (k given b ∷ fs) ≡ firstOf fs
 unfolding firstOf pick
 past k b fs e = rw e refl
 
--- ---- a session that runs after the bits x
+-- the faults of its finish, its purpose being to make
+stood-faults : (A : Agreement) (s : List ℕ) (d : ℕ) (x : Bits) (room : ℕ) → finishFaults (stood A s d x) room ≡ endFaults (stood A s d x) false (roomShort (A .m) room)
+unfolding finishFaults notMaking stood standing freshOf
+stood-faults A s d x room = refl
+
+-- ---- a session that runs after the bits x; what is said of its faults holds for either purpose (`aimed-end`)
 
 module _ (A : Agreement) (s : List ℕ) (d : ℕ) (g : Clear (startFaults A s d)) (x : Bits) (runs : Running (stood A s d x)) where
   -- 11 and 12 are not there
-  finish-last : (A .padding ≡ 3 → d ≡ length x) → (room : ℕ) → firstOf (finishFaults (stood A s d x) room) ≡ lastTwo A (length x) room
-  unfolding finishFaults fallsShort declaredAt pick stood standing freshOf
-  finish-last met room =
-      past 11 _ _ runs
+  pub end-last : (A .padding ≡ 3 → d ≡ length x) → (ten : Bool) → firstOf (endFaults (stood A s d x) false ten) ≡ lastTwo A (length x) ten
+  unfolding endFaults fallsShort declaredAt pick stood standing freshOf
+  end-last met ten =
+      past 11 _ _ runs ∙ past 11 _ _ refl
       ∙ past 12 _ _ (three-no (A .padding) _ (λ e. ap (λ (k : ℕ). ltb (length x) (pick (eqb k 3) d 0)) e ∙ le-ltb (length x) d (omega (arith, met e))))
 
   -- 1 to 6 are not there, nor 7 and 8
-  make-last : (bytes : List ℕ) (l : ℕ) → Holds bytes l x → (ten : Bool)
-      → firstOf (oneCallFaults A s (length bytes) l ten) ≡ firstOf (9 given tooFewBlocks (settingsOf A) (length x) ∷ 10 given ten ∷ [])
+  pub one-call-last : (bytes : List ℕ) (l : ℕ) → Holds bytes l x → (ten : Bool) → firstOf (oneCallFaults A s (length bytes) l ten) ≡ lastTwo A (length x) ten
   unfolding oneCallFaults startFaults messageFaults lengthWrong tooManyBits stood standing freshOf
-  make-last bytes l h ten =
+  one-call-last bytes l h ten =
       first-append-clear (settingsFaults A (length s) (keysOf s)) _ (settings-alone A (length s) (keysOf s)) (clear-first (clear-append (settingsFaults A (length s) (keysOf s)) _ g .0))
       ∙ past 7 _ _ (ap not (eq-eqb (length bytes) (bytesFor l) (h .long)))
       ∙ past 8 _ _ (le-ltb 8388608 l (omega (arith, few, length-held bytes l x h)))
@@ -93,7 +97,7 @@ module _ (A : Agreement) (s : List ℕ) (d : ℕ) (g : Clear (startFaults A s d)
       no = firstOf (finishFaults (stood A s d x) (length room))
 
       same : no ≡ firstOf (oneCallFaults A s (length bytes) l (roomShort (A .m) (length room)))
-      same = finish-last met (length room) ∙ sym (make-last bytes l h (roomShort (A .m) (length room)))
+      same = ap firstOf (stood-faults A s d x (length room)) ∙ end-last met (roomShort (A .m) (length room)) ∙ sym (one-call-last bytes l h (roomShort (A .m) (length room)))
 
       go : (b : Bool) → eqb no 0 ≡ b → (finishOf (stood A s d x) room .0 .answer, finishOf (stood A s d x) room .1) ≡ makeOf A s bytes l room
       go true e =
@@ -104,7 +108,7 @@ module _ (A : Agreement) (s : List ℕ) (d : ℕ) (g : Clear (startFaults A s d)
 
 -- ---- 9 under padding 3: never, for L and a block of the message are two
 
-never-few : (A : Agreement) (l : ℕ) → A .padding ≡ 3 → tooFewBlocks (settingsOf A) l ≡ false
+pub never-few : (A : Agreement) (l : ℕ) → A .padding ≡ 3 → tooFewBlocks (settingsOf A) l ≡ false
 unfolding tooFewBlocks needed
 never-few A l e =
     le-ltb (blockCount (methodAt (A .padding)) (cipherAt 1 .n) l) (row (algorithmAt (A .algorithm)) .least) (omega (arith, least-two (algorithmAt (A .algorithm)), count-three (cipherAt 1 .n) l (lawful-at 1 .wide) (A .padding) e))
@@ -116,62 +120,64 @@ no-nine true t e = absurd (omega arith)
 no-nine false true e = absurd (omega arith)
 no-nine false false e = absurd (omega arith)
 
-module _ (A : Agreement) (s : List ℕ) (d : ℕ) (u : Unrefused (startOf A s d .answer)) (x : Bits) (runs : Running (stood A s d x)) (three : A .padding ≡ 3) where
-  never-nine : (room : List ℕ) → ¬ (numberOf (finishOf (stood A s d x) room .0 .answer) ≡ 9)
-  unfolding finishFaults stood standing freshOf
-  never-nine room e =
-      no-nine (fallsShort (A .padding) (declaredAt (A .padding) d) (length x)) (roomShort (A .m) (length room))
-      (ap (λ (b : Bool). firstOf (12 given fallsShort (A .padding) (declaredAt (A .padding) d) (length x) ∷ 9 given b ∷ 10 given roomShort (A .m) (length room) ∷ [])) (sym (never-few A (length x) three))
-      ∙ sym (past 11 _ _ runs) ∙ sym (finish-faults (stood A s d x) room) ∙ e)
+module _ (A : Agreement) (s : List ℕ) (d : ℕ) (g : Clear (startFaults A s d)) (x : Bits) (runs : Running (stood A s d x)) (three : A .padding ≡ 3) where
+  pub never-nine : (ten : Bool) → ¬ (firstOf (endFaults (stood A s d x) false ten) ≡ 9)
+  unfolding endFaults stood standing freshOf
+  never-nine ten e =
+      no-nine (fallsShort (A .padding) (declaredAt (A .padding) d) (length x)) ten
+      (ap (λ (b : Bool). firstOf (12 given fallsShort (A .padding) (declaredAt (A .padding) d) (length x) ∷ 9 given b ∷ 10 given ten ∷ [])) (sym (never-few A (length x) three))
+      ∙ sym (past 11 _ _ runs ∙ past 11 _ _ refl) ∙ e)
 
-  one-never-nine : (bytes : List ℕ) (l : ℕ) → Holds bytes l x → (room : List ℕ) → ¬ (numberOf (makeOf A s bytes l room .0) ≡ 9)
-  one-never-nine bytes l h room e =
-      no-nine false (roomShort (A .m) (length room))
-      (past 12 false _ refl
-      ∙ ap (λ (b : Bool). firstOf (9 given b ∷ 10 given roomShort (A .m) (length room) ∷ [])) (sym (never-few A (length x) three))
-      ∙ sym (make-last A s d (start-clear A s d u) x runs bytes l h (roomShort (A .m) (length room))) ∙ sym (make-faults A s bytes l room) ∙ e)
+  pub one-never-nine : (bytes : List ℕ) (l : ℕ) → Holds bytes l x → (ten : Bool) → ¬ (firstOf (oneCallFaults A s (length bytes) l ten) ≡ 9)
+  one-never-nine bytes l h ten e =
+      no-nine false ten
+      (past 12 false _ refl ∙ ap (λ (b : Bool). firstOf (9 given b ∷ 10 given ten ∷ [])) (sym (never-few A (length x) three)) ∙ sym (one-call-last A s d g x runs bytes l h ten) ∙ e)
 
 -- ---- the statements: of every start that was accepted and any calls after it
 
-module _ (A : Agreement) (s : List ℕ) (d : ℕ) (u : Unrefused (startOf A s d .answer)) (cs : List Act) (bytes : List ℕ) (l : ℕ) (h : Holds bytes l (message A s d cs)) (room : List ℕ) where
+module _ (A : Agreement) (s : List ℕ) (d : ℕ) (u : Unrefused (startOf A s d .answer)) (cs : List Act) (bytes : List ℕ) (l : ℕ) (h : Holds bytes l (message (to-make A s d) cs)) (room : List ℕ) where
+  abbrev b : Begun
+  b = to-make A s d
+
   abbrev one : Outcome × List ℕ
   one = makeOf A s bytes l room
 
   abbrev end : Step × List ℕ
   end = finished A s d cs room
 
-  pub ends-as-one-call : Running (record-after A s d cs) → (A .padding ≡ 3 → d ≡ length (message A s d cs)) → (end .0 .answer, end .1) ≡ one
+  pub ends-as-one-call : Running (record-after b cs) → (A .padding ≡ 3 → d ≡ length (message b cs)) → (end .0 .answer, end .1) ≡ one
   ends-as-one-call runs met =
-      let e = after-stood A s d u cs runs in
+      let e = after-stood b u cs runs in
       ap (λ (t : Session). (finishOf t room .0 .answer, finishOf t room .1)) e
-      ∙ both A s d (start-clear A s d u) (message A s d cs) (rw e at runs) met bytes l h room
+      ∙ both A s d (start-clear A s d u) (message b cs) (rw e at runs) met bytes l h room
 
   pub finished-as-one-call : Unrefused (end .0 .answer) → Unrefused (one .0) × (end ≡ ending one)
-  unfolding declaredAt pick
+  unfolding declaredAt pick finishFaults
   finished-as-one-call f = (accepted, joined-bits A s d u cs room f ∙ ap ending (sym (made-of A s bytes l room accepted ∙ ap (λ (w : Bits). madeOf A s w room) (h .bits))))
     where
-      runs : Running (record-after A s d cs)
-      runs = finish-runs (record-after A s d cs) room f
+      runs : Running (record-after b cs)
+      runs = finish-runs (record-after b cs) room f
 
       -- no 12: the declared length is met
-      met : A .padding ≡ 3 → d ≡ length (message A s d cs)
+      met : A .padding ≡ 3 → d ≡ length (message b cs)
       met e =
-          let sound = finish-sound (record-after A s d cs) room f in
-          let met-at = declared-met A s d (message A s d cs) room (ended _ (length room) (rw (after-stood A s d u cs runs) at sound)) e in
+          let sound = finish-sound (record-after b cs) room f in
+          let met-at = declared-met A s d (message b cs) (ended _ _ _ (rw (after-stood b u cs runs) at sound)) e in
           sym (ap (λ (k : ℕ). pick (eqb k 3) d 0) e) ∙ met-at
 
       accepted : Unrefused (one .0)
       accepted = ap (λ (r : Outcome × List ℕ). numberOf (r .0)) (sym (ends-as-one-call runs met)) ∙ f
 
-  pub nine-by-both : Running (record-after A s d cs) → (numberOf (end .0 .answer) ≡ 9 → numberOf (one .0) ≡ 9) × (numberOf (one .0) ≡ 9 → numberOf (end .0 .answer) ≡ 9)
+  pub nine-by-both : Running (record-after b cs) → (numberOf (end .0 .answer) ≡ 9 → numberOf (one .0) ≡ 9) × (numberOf (one .0) ≡ 9 → numberOf (end .0 .answer) ≡ 9)
   nine-by-both runs = go (eqb (A .padding) 3) refl
     where
       go : (b : Bool) → eqb (A .padding) 3 ≡ b → (numberOf (end .0 .answer) ≡ 9 → numberOf (one .0) ≡ 9) × (numberOf (one .0) ≡ 9 → numberOf (end .0 .answer) ≡ 9)
       go true p =
           let three = eqb-true (A .padding) 3 p in
-          let e = after-stood A s d u cs runs in (
-            λ nine. absurd (never-nine A s d u (message A s d cs) (rw e at runs) three room (ap (λ (t : Session). numberOf (finishOf t room .0 .answer)) (sym e) ∙ nine)),
-            λ nine. absurd (one-never-nine A s d u (message A s d cs) (rw e at runs) three bytes l h room nine),
+          let e = after-stood b u cs runs in
+          let g = start-clear A s d u in (
+            λ nine. absurd (never-nine A s d g (message b cs) (rw e at runs) three _ (ap firstOf (sym (stood-faults A s d (message b cs) (length room))) ∙ sym (finish-faults (stood A s d (message b cs)) room) ∙ ap (λ (t : Session). numberOf (finishOf t room .0 .answer)) (sym e) ∙ nine)),
+            λ nine. absurd (one-never-nine A s d g (message b cs) (rw e at runs) three bytes l h _ (sym (make-faults A s bytes l room) ∙ nine)),
           )
       go false p =
           let same = ap (λ (r : Outcome × List ℕ). numberOf (r .0)) (ends-as-one-call runs (λ e. absurd (eqb-false (A .padding) 3 p e))) in

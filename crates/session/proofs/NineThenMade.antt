@@ -7,7 +7,7 @@ use mathlib.Core.Bool.{true}
 use mathlib.Core.List.{List, [], _∷_, _++_, map, append-nil}
 use Prim.Native.Nat.{ℕ, _+_, _*_, _≤_}
 use native.Mathlib.Omega.{arith}
-use lib.ListN.{length, length-append}
+use lib.ListN.{length, replicate, length-append}
 use lib.Seq.{take-all}
 use Rattle.bits.specs.Choice.{pick}
 use Rattle.bits.specs.Str.{Bits, bytesBits, zeros}
@@ -31,11 +31,13 @@ use Rattle.settings.proofs.Numbers.{Unrefused}
 use Rattle.message.specs.Faults.{tooFewBlocks, roomShort}
 use Rattle.tag.specs.OneCall.{oneCallFaults, makeOf}
 use Rattle.tag.proofs.Numbers.{made-of, make-sound}
+use Rattle.session.specs.declared.Purpose.the-variants.{Making}
 use Rattle.session.specs.declared.Session.{Session}
 use Rattle.session.specs.declared.Step.{Step}
-use Rattle.session.specs.Record.{standing}
-use Rattle.session.specs.Calls.{freshOf, startOf, fallsShort, finishFaults, finishOf}
-use Rattle.session.proofs.Stood.{stood}
+use Rattle.session.specs.Record.{standing, notMaking}
+use Rattle.session.specs.Calls.{freshOf, startOf, fallsShort, endFaults, finishFaults, finishOf}
+use Rattle.session.proofs.Purposes.{aimed-closed}
+use Rattle.session.proofs.Stood.{stood, stood-making}
 use Rattle.session.proofs.Joined.{Offered, bitsIn, offers, ends, answered, handed, ending, finish-faults, refused-finish, start-stood}
 use Rattle.session.proofs.Accepting.{Cut, Served, accepting, end, next, one-call-numbered, stays-open, all-handed}
 
@@ -90,13 +92,15 @@ module _ (s : List ℕ) (m : ℕ) (block : List ℕ) (byte : ℕ) (room : List �
   unfolding joined numberOf
   at-half =
       ap (λ (t : Session). handed t (offers whole ∷ [])) (start-stood (four m) s 129 (ap numberOf (served .start)))
-      ∙ all-handed (four m) s (length all) 129 (length room) clear [] (whole ∷ []) (next fits (λ h. refl) end) (omega (arith, long-half))
+      ∙ ap (λ (t : Session). handed t (offers whole ∷ [])) (sym (stood-making (four m) s 129 []))
+      ∙ all-handed Making (replicate 16 0) (four m) s (length all) 129 (roomShort m (length room)) clear [] (whole ∷ []) (next fits (λ h. refl) end) (omega (arith, long-half))
+      ∙ stood-making (four m) s 129 halfway
 
   pub nine-first : numberOf (finishOf (handed begun (offers whole ∷ [])) room .0 .answer) ≡ 9
-  unfolding finishFaults fallsShort stood standing freshOf tooFewBlocks blockCount prefix suffix gap complete zeros pick methodAt algorithmAt cipherAt
+  unfolding finishFaults endFaults notMaking fallsShort stood standing freshOf tooFewBlocks blockCount prefix suffix gap complete zeros pick methodAt algorithmAt cipherAt
   nine-first =
       ap (λ (t : Session). numberOf (finishOf t room .0 .answer)) at-half ∙ finish-faults (stood (four m) s 129 halfway) room
-      ∙ given-first (later (stays-open (four m) s (length all) 129 (length room) clear halfway (omega (arith, long-half))) (later refl (here few)))
+      ∙ given-first (later (sym (aimed-closed Making (replicate 16 0) (stood (four m) s 129 halfway)) ∙ stays-open Making (replicate 16 0) (four m) s (length all) 129 (roomShort m (length room)) clear halfway (omega (arith, long-half))) (later refl (later refl (here few))))
     where
       one-block : tooFewBlocks (settingsOf (four m)) 128 ≡ true
       one-block = refl

@@ -28,7 +28,7 @@ use Rattle.session.specs.declared.Phase.{Phase}
 use Rattle.session.specs.declared.Phase.the-variants.{Closed, Edge, Part}
 use Rattle.session.specs.declared.Session.{Session}
 use Rattle.session.specs.Record.{keysIn, phaseAt, phaseUnfit, settingsUnsound, declaredTooLong, passesDeclared, strayBit, closedFaults, countsClosed}
-use Rattle.session.specs.Calls.{declaredAt, lateBits, pieceFaults, fallsShort, finishFaults}
+use Rattle.session.specs.Calls.{declaredAt, lateBits, pieceFaults, fallsShort, endFaults, finishFaults}
 
 -- ---- tests that say no
 
@@ -130,25 +130,47 @@ taken s c bits e = go (piece-none s c bits e)
       within = under-three (s .agreement .padding) (s .declared) (s .total + bits) twelve;
     }
 
--- ---- a finish that is not refused
+-- ---- a finish that is not refused, of either purpose
 
-pub record Ended (s : Session) (room : ℕ) : Type 0 where
+pub record Ended (s : Session) : Type 0 where
   pub stands : Open s
   pub whole : s .agreement .padding ≡ 3 → s .declared ≤ s .total
   pub enough : tooFewBlocks (settingsOf (s .agreement)) (s .total) ≡ false
-  pub wide : bytesFor (s .agreement .m) ≤ room
 
-pub ended : (s : Session) (room : ℕ) → firstOf (finishFaults s room) ≡ 0 → Ended s room
-unfolding finishFaults fallsShort roomShort
-ended s room e = go (first-clear (finishFaults s room) four e)
-  where
-    four : Numbered (finishFaults s room)
-    four = also {k = 11} (omega arith) (also {k = 12} (omega arith) (also {k = 9} (omega arith) (also {k = 10} (omega arith) none)))
+module _ (s : Session) (other ten : Bool) (e : firstOf (endFaults s other ten) ≡ 0) where
+  end-clear : Clear (endFaults s other ten)
+  unfolding endFaults
+  end-clear =
+      first-clear (endFaults s other ten)
+      (also {k = 11} (omega arith) (also {k = 11} (omega arith) (also {k = 12} (omega arith) (also {k = 9} (omega arith) (also {k = 10} (omega arith) none))))) e
 
-    go : Clear (finishFaults s room) → Ended s room
-    go (passed shut (passed twelve (passed nine (passed ten done)))) = record {
-      stands = opens s shut;
-      whole = under-three (s .agreement .padding) (s .total) (s .declared) twelve;
-      enough = nine;
-      wide = ltb-false room (bytesFor (s .agreement .m)) ten;
-    }
+  pub ended : Ended s
+  unfolding endFaults fallsShort
+  ended = go end-clear
+    where
+      go : Clear (endFaults s other ten) → Ended s
+      go (passed shut (passed mine (passed twelve (passed nine (passed roomy done))))) = record {
+        stands = opens s shut;
+        whole = under-three (s .agreement .padding) (s .total) (s .declared) twelve;
+        enough = nine;
+      }
+
+  -- the session is not for the other purpose
+  pub own-purpose : other ≡ false
+  unfolding endFaults
+  own-purpose = go end-clear
+    where
+      go : Clear (endFaults s other ten) → other ≡ false
+      go (passed shut (passed mine rest)) = mine
+
+  pub no-tenth : ten ≡ false
+  unfolding endFaults
+  no-tenth = go end-clear
+    where
+      go : Clear (endFaults s other ten) → ten ≡ false
+      go (passed shut (passed mine (passed twelve (passed nine (passed roomy done))))) = roomy
+
+-- where a tag is made, there is room for it
+pub room-wide : (s : Session) (room : ℕ) → firstOf (finishFaults s room) ≡ 0 → bytesFor (s .agreement .m) ≤ room
+unfolding finishFaults roomShort
+room-wide s room e = ltb-false room (bytesFor (s .agreement .m)) (no-tenth s _ _ e)

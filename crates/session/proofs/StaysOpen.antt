@@ -1,6 +1,6 @@
--- An accepted start, and an accepted piece offered to any record at all, leave the session open (01, "Numbered answers"): no test by
--- which a record counts as closed finds anything in what they hand back (`start-opens`, `piece-opens`). `stood-open` says it of every
--- record that an accepted start and bits within the limits lead to.
+-- An accepted start of either purpose, and an accepted piece offered to any record at all, leave the session open (01, "Numbered
+-- answers"): no test by which a record counts as closed finds anything in what they hand back (`start-opens`, `start-check-opens`,
+-- `piece-opens`). `stood-open` and `aimed-open` say it of every record that an accepted start and bits within the limits lead to.
 -- Assumes nothing.
 use mathlib.Core.Path.{_≡_, refl, sym, ap, _∙_}
 use mathlib.Core.Bool.{Bool, true, false, not, _&&_}
@@ -12,7 +12,8 @@ use lib.Dec.{eqb, ltb}
 use lib.ListN.{length}
 use Rattle.bits.specs.Choice.{pick}
 use Rattle.bits.specs.Str.{Bits}
-use Rattle.bits.proofs.Faults.{Clear, passed, done, also, none, first-clear, clear-first}
+use Rattle.bits.proofs.Faults.{Clear, passed, done, first-clear, clear-first}
+use Rattle.block.specs.Block.{front}
 use Rattle.mac.specs.Algorithm.{Keys}
 use Rattle.mac.specs.Session.{State, absorb}
 use Rattle.mac.proofs.TagBytes.{length-bitsOf}
@@ -25,18 +26,21 @@ use Rattle.keys.proofs.GivenKeys.{given-keys}
 use Rattle.settings.specs.Faults.{settingsFaults, settingsRefusal}
 use Rattle.settings.specs.declared.Agreement.{Agreement}
 use Rattle.settings.proofs.Numbers.{Unrefused}
-use Rattle.settings.proofs.Sound.{settings-numbered}
 use Rattle.message.specs.Faults.{tooManyBits}
 use Rattle.chain.specs.declared.Hold.{Hold}
 use Rattle.chain.specs.Chain.{holdOf}
 use Rattle.chain.proofs.Standing.{Reached, reached-at, reached-next, keeps}
+use Rattle.session.specs.declared.Purpose.{Purpose}
+use Rattle.session.specs.declared.Purpose.the-variants.{Checking}
 use Rattle.session.specs.declared.Session.{Session}
 use Rattle.session.specs.declared.Step.{Step}
-use Rattle.session.specs.Record.{keysIn, stateIn, standing, phaseAt, phaseUnfit, settingsUnsound, declaredTooLong, passesDeclared, closedFaults, countsClosed}
-use Rattle.session.specs.Calls.{startFaults, freshOf, declaredAt, startOf, stepsIn, pieceFaults, fedOf}
+use Rattle.session.specs.Record.{keysIn, stateIn, standing, aimed, phaseAt, phaseUnfit, settingsUnsound, declaredTooLong, passesDeclared, closedFaults, countsClosed}
+use Rattle.session.specs.Calls.{startFaults, freshOf, declaredAt, startOf, startCheckOf, stepsIn, pieceFaults, fedOf}
 use Rattle.session.proofs.Open.{closed-numbered, Taken, taken, piece-none}
+use Rattle.session.proofs.Answers.{start-faults, start-alone}
+use Rattle.session.proofs.Purposes.{aimed-closed}
 use Rattle.session.proofs.Stood.{stood, held-clean, stood-clean}
-use Rattle.session.proofs.Joined.{Offered, bitsIn, offer, Running, piece-taken, piece-sound, start-faults, start-stood}
+use Rattle.session.proofs.Joined.{Offered, bitsIn, offer, Running, piece-taken, piece-sound, start-stood, start-check-stood, start-check-clear}
 
 -- ---- tests that find nothing
 
@@ -78,8 +82,7 @@ running-clear s e = first-clear (closedFaults s) (closed-numbered s) (eqb-true _
 
 module _ (A : Agreement) (s : List ℕ) (d : ℕ) where
   pub start-clear : Unrefused (startOf A s d .answer) → Clear (startFaults A s d)
-  unfolding startFaults
-  start-clear u = first-clear _ (settings-numbered A (length s) (keysOf s) _ (also {k = 8} (omega arith) none)) (sym (start-faults A s d) ∙ u)
+  start-clear u = first-clear _ (start-alone A s d) (sym (start-faults A s d) ∙ u)
 
   settings-sound : Clear (startFaults A s d) → settingsUnsound A (givenOf s) ≡ false
   unfolding startFaults settingsFaults settingsUnsound settingsRefusal keyBytesWrong
@@ -103,8 +106,17 @@ module _ (A : Agreement) (s : List ℕ) (d : ℕ) where
       (passed (kept-no (A .padding) d (λ k. ltb k (length x)) (three-no (A .padding) _ (λ e. le-ltb d (length x) (within e))))
       (passed (stood-clean A s d x) done))))))
 
+  -- of either purpose
+  pub aimed-open : (p : Purpose) (e : List ℕ) → Clear (startFaults A s d) → (x : Bits) → length x ≤ 8388608 → (A .padding ≡ 3 → length x ≤ d) → Running (aimed p e (stood A s d x))
+  aimed-open p e g x few within = aimed-closed p e (stood A s d x) ∙ stood-open g x few within
+
   pub start-opens : Unrefused (startOf A s d .answer) → Running (startOf A s d .session)
   start-opens u = let e = start-stood A s d u in rw e (stood-open (start-clear u) [] (omega arith) (λ h. omega arith))
+
+  pub start-check-opens : (tag : List ℕ) → Unrefused (startCheckOf A s d tag .answer) → Running (startCheckOf A s d tag .session)
+  start-check-opens tag u =
+      let e = start-check-stood A s d tag u in
+      rw e (aimed-open Checking (front tag) (start-check-clear A s d tag u .0) [] (omega arith) (λ h. omega arith))
 
 -- ---- after an accepted piece: of any record whose blocks have sixteen bytes
 

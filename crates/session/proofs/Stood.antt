@@ -7,7 +7,7 @@ use mathlib.Core.List.{List, [], _++_, append-nil}
 use Prim.Native.Nat.{ℕ, zero, suc, _+_, _≤_, _<_}
 use native.Mathlib.Nat.{zero-add}
 use native.Mathlib.Omega.{arith}
-use lib.ListN.{length, take, length-append}
+use lib.ListN.{length, take, replicate, length-append}
 use Rattle.bits.specs.Choice.{pick}
 use Rattle.bits.specs.Str.{Bits, bytesBits, zeros, leftmost}
 use Rattle.bits.proofs.Strings.{sameB-true, length-zeros}
@@ -32,8 +32,9 @@ use Rattle.chain.specs.declared.Hold.{Hold}
 use Rattle.chain.specs.Chain.{heldBits, holdOf}
 use Rattle.chain.proofs.Feeding.{held-le}
 use Rattle.chain.proofs.Standing.{quiet, absorb-quiet, Reached, stands, reached-next, reached-opened, keeps, closes}
+use Rattle.session.specs.declared.Purpose.the-variants.{Making}
 use Rattle.session.specs.declared.Session.{Session}
-use Rattle.session.specs.Record.{stateIn, phaseAt, standing, strayBit}
+use Rattle.session.specs.Record.{stateIn, phaseAt, standing, aimed, strayBit}
 use Rattle.session.specs.Calls.{freshOf, declaredAt, fedOf, tagIn, callsIn}
 
 abbrev C : Cipher
@@ -95,6 +96,11 @@ module _ (A : Agreement) (s : List ℕ) (d : ℕ) where
 
   unfoldable pub stood : Bits → Session
   stood x = standing fresh (length x) (after x)
+
+  -- it is for making, with zeros expected
+  pub stood-making : (x : Bits) → aimed Making (replicate 16 0) (stood x) ≡ stood x
+  unfolding aimed stood standing freshOf
+  stood-making x = refl
 
   reached : (x : Bits) → Reached n p (length x) (after x)
   reached x = subst (λ (l : ℕ). Reached n p l (after x)) (zero-add (length x)) (reached-next n some S (keeps 1 a p K) p 0 beginning (reached-opened 1 a p K (declaredAt p d)) x)

@@ -1,6 +1,6 @@
 -- A session's record, the code's own: what it stands for among the definition's states (crate mac), and when it counts as closed.
 -- Assumes nothing.
-use mathlib.Core.Bool.{Bool, true, not, _&&_}
+use mathlib.Core.Bool.{Bool, true, false, not, _&&_}
 use mathlib.Core.List.{List, [], _∷_}
 use Prim.Native.Nat.{ℕ, _%_}
 use lib.ListN.{replicate}
@@ -21,17 +21,21 @@ use Rattle.chain.specs.declared.Hold.{Hold}
 use Rattle.chain.specs.Chain.{heldBits, stateAt, holdOf}
 use Rattle.session.specs.declared.Phase.{Phase}
 use Rattle.session.specs.declared.Phase.the-variants.{Closed, Edge, Part}
+use Rattle.session.specs.declared.Purpose.{Purpose}
+use Rattle.session.specs.declared.Purpose.the-variants.{Making, Checking}
 use Rattle.session.specs.declared.Session.{Session}
 
--- closed, and every other field zero
+-- closed, and every other field zero, the purpose making
 unfoldable pub cleared : Session
 cleared = record {
   phase = Closed;
+  purpose = Making;
   agreement = record { algorithm = 0; padding = 0; m = 0 };
   declared = 0;
   total = 0;
   keys = replicate 32 0;
   hold = record { value = replicate 16 0; held = replicate 16 0 };
+  expected = replicate 16 0;
 }
 
 -- ---- what it stands for
@@ -49,9 +53,41 @@ phaseAt l = pick (eqb (l % 8) 0) Edge (Part (l % 8))
 
 -- the record of s that stands for t after l bits
 unfoldable pub standing : Session → ℕ → State → Session
-standing s l t = record { phase = phaseAt l; agreement = s .agreement; declared = s .declared; total = l; keys = s .keys; hold = holdOf t }
+standing s l t = record {
+  phase = phaseAt l;
+  purpose = s .purpose;
+  agreement = s .agreement;
+  declared = s .declared;
+  total = l;
+  keys = s .keys;
+  hold = holdOf t;
+  expected = s .expected;
+}
 
--- ---- when it counts as closed (01, "Numbered answers")
+-- ---- what it is for
+
+-- the record of s for this purpose, with this tag expected
+unfoldable pub aimed : Purpose → List ℕ → Session → Session
+aimed p e s = record {
+  phase = s .phase;
+  purpose = p;
+  agreement = s .agreement;
+  declared = s .declared;
+  total = s .total;
+  keys = s .keys;
+  hold = s .hold;
+  expected = e;
+}
+
+unfoldable pub notMaking : Purpose → Bool
+notMaking Making = false
+notMaking Checking = true
+
+unfoldable pub notChecking : Purpose → Bool
+notChecking Making = true
+notChecking Checking = false
+
+-- ---- when it counts as closed (01, "Numbered answers"); its purpose and the expected tag have no part in it
 
 -- its phase is closed, or its total does not fit it
 unfoldable pub phaseUnfit : Phase → ℕ → Bool

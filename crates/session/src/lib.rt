@@ -1,18 +1,22 @@
-// A session: the message comes in pieces, and the record goes from call to call by value. Each call judges the record and its own
-// input anew, so any record is answered; the work is the heart of crate chain.
+// A session: the message comes in pieces, and the record goes from call to call by value. At its end a tag is made, or the tag that was
+// given at its start is checked. Each call judges the record and its own input anew, so any record is answered; the work is the heart
+// of crate chain.
 ghost use mathlib.Core.Path.{_≡_};
+ghost use mathlib.Core.Bool.{false};
 ghost use Prim.Native.Nat.{_+_, _*_, _%_, _≤_, _<_};
 ghost use lib.ListN.{length};
 ghost use Rattle.bits.specs.Choice.{firstOf};
 ghost use Rattle.bits.specs.Str.{bytesBits};
-ghost use Rattle.block.specs.Block.{filledBlock};
+ghost use Rattle.block.specs.Block.{storage, filledBlock};
 ghost use Rattle.cipher.specs.Ciphers.{tableAt};
 ghost use Rattle.mac.specs.Tag.{bitsOf};
 ghost use Rattle.keys.specs.Given.{keyBits};
-ghost use Rattle.settings.specs.Answers.{settingsOf};
+ghost use Rattle.settings.specs.Answers.{numberOf, settingsOf};
+ghost use Rattle.message.specs.Faults.{tooFewBlocks};
 ghost use Rattle.chain.specs.Chain.{roundsBits, roundsOf};
-ghost use Rattle.session.specs.Record.{cleared, phaseAt, phaseUnfit, settingsUnsound, passesDeclared, declaredTooLong, strayBit, countsClosed, keysIn};
-ghost use Rattle.session.specs.Calls.{refusedStart, freshOf, declaredAt, startUnder, startOf, lateBits, pieceFaults, fedOf, pieceOf, fallsShort, finishFaults, tagIn, finishOf};
+ghost use Rattle.session.specs.declared.Purpose.the-variants.{Checking};
+ghost use Rattle.session.specs.Record.{cleared, aimed, notMaking, notChecking, phaseAt, phaseUnfit, settingsUnsound, passesDeclared, declaredTooLong, strayBit, countsClosed, keysIn};
+ghost use Rattle.session.specs.Calls.{refusedStart, freshOf, declaredAt, startUnder, startOf, startCheckOf, lateBits, pieceFaults, fedOf, pieceOf, fallsShort, endFaults, tagIn, callsIn, finishOf, judgedOf, finishCheckOf};
 
 // Open at a byte edge, open after a part byte of 1 to 7 bits, or closed.
 pub enum Phase {
@@ -21,14 +25,23 @@ pub enum Phase {
     Part(usize),
 }
 
-// What was agreed, the declared length, the bits so far, the keys as they were given, and what the chain holds.
+// What a session is for: its finish makes a tag, or says whether the expected one is right.
+pub enum Purpose {
+    Making,
+    Checking,
+}
+
+// What was agreed, the declared length, the bits so far, the keys as they were given, what the chain holds, and the tag that a check
+// expects, of which the agreed bits count alone.
 pub struct Session {
     pub phase: Phase,
+    pub purpose: Purpose,
     pub agreement: settings::Agreement,
     pub declared: usize,
     pub total: usize,
     pub keys: [u8; 32],
     pub hold: chain::Hold,
+    pub expected: [u8; 16],
 }
 
 // What a call answers, and the session it hands back.
@@ -53,11 +66,33 @@ fn closed_session() -> Session
     };
     Session {
         phase: Phase::Closed,
+        purpose: Purpose::Making,
         agreement,
         declared: 0,
         total: 0,
         keys: [0u8; 32],
         hold,
+        expected: [0u8; 16],
+    }
+}
+
+// Whether a session of this purpose is not one that makes a tag, and so has another finish.
+fn not_making(purpose: Purpose) -> bool
+    ensures { λ r. ⌜ r ≡ notMaking purpose ⌝ }
+{
+    match purpose {
+        Purpose::Making => false,
+        Purpose::Checking => true,
+    }
+}
+
+// And not one that checks a tag.
+fn not_checking(purpose: Purpose) -> bool
+    ensures { λ r. ⌜ r ≡ notChecking purpose ⌝ }
+{
+    match purpose {
+        Purpose::Making => true,
+        Purpose::Checking => false,
     }
 }
 
@@ -121,7 +156,7 @@ fn stray_bit(n: usize, held: [u8; 16]) -> bool
     !block::equal(block::leftmost(held, n), held)
 }
 
-// Whether a record counts as closed.
+// Whether a record counts as closed, for whatever purpose and with whatever tag expected.
 fn counts_closed(s: Session) -> bool
     ensures { λ r. ⌜ r ≡ countsClosed s ⌝ }
 {
@@ -184,11 +219,13 @@ fn fresh(
     let hold = chain::begin(&t, k, declared as u32);
     Session {
         phase: Phase::Edge,
+        purpose: Purpose::Making,
         agreement,
         declared,
         total: 0,
         keys: given,
         hold,
+        expected: [0u8; 16],
     }
 }
 
@@ -225,6 +262,60 @@ pub fn start(agreement: settings::Agreement, keys: &[u8], declared: usize) -> St
         settings::Checked::Sound(s) => {
             start_under(agreement, s, keys::kept(keys), unpacked, declared)
         }
+    }
+}
+
+// The number of an answer, 0 where nothing is refused.
+fn number_of(answer: settings::Outcome) -> usize
+    ensures { λ r. ⌜ r ≡ numberOf answer ⌝ }
+{
+    match answer {
+        settings::Outcome::Accepted => 0,
+        settings::Outcome::Made(_) => 0,
+        settings::Outcome::Yes(_) => 0,
+        settings::Outcome::No(_) => 0,
+        settings::Outcome::Refused(number) => number,
+    }
+}
+
+// The session, its purpose to check this tag.
+fn to_check(s: Session, expected: [u8; 16]) -> Session
+    ensures { λ r. ⌜ r ≡ aimed Checking expected s ⌝ }
+{
+    let phase = s.phase;
+    let agreement = s.agreement;
+    let keys = s.keys;
+    let hold = s.hold;
+    Session {
+        phase,
+        purpose: Purpose::Checking,
+        agreement,
+        declared: s.declared,
+        total: s.total,
+        keys,
+        hold,
+        expected,
+    }
+}
+
+// A session begins at whose end this tag is checked; its bytes are kept as they were given.
+pub fn start_check(agreement: settings::Agreement, keys: &[u8], declared: usize, tag: &[u8]) -> Step
+    ensures { λ r. ⌜ r ≡ startCheckOf agreement (now (keys .entry)) declared (now (tag .entry)) ⌝ }
+{
+    let step = start(agreement, keys, declared);
+    let answer = step.answer;
+    let no = number_of(answer);
+    if no != 0 {
+        return refused_start(no);
+    }
+    if message::tag_length_wrong(agreement.m, tag.len()) {
+        return refused_start(10);
+    }
+    let begun = step.session;
+    let first = to_check(begun, block::front(tag));
+    Step {
+        answer: settings::Outcome::Accepted,
+        session: first,
     }
 }
 
@@ -281,14 +372,18 @@ fn fed(s: Session, bytes: &[u8], bits: usize) -> Session
     let next = chain::feed(&t, k, hold, s.total, bytes, bits);
     let total = s.total + bits;
     let phase = phase_at(total);
+    let purpose = s.purpose;
     let keys = s.keys;
+    let expected = s.expected;
     Session {
         phase,
+        purpose,
         agreement,
         declared: s.declared,
         total,
         keys,
         hold: next,
+        expected,
     }
 }
 
@@ -303,17 +398,19 @@ fn falls_short(padding: usize, declared: usize, total: usize) -> bool
     false
 }
 
-fn finish_refusal(s: Session, room: usize) -> usize
-    ensures { λ r. ⌜ r ≡ firstOf (finishFaults s room) ⌝ }
+// The refusal of a finish; told are whether its purpose is not the session's, and the tenth fault.
+fn finish_refusal(s: Session, other: bool, ten: bool) -> usize
+    ensures { λ r. ⌜ r ≡ firstOf (endFaults s other ten) ⌝ }
 {
     let agreement = s.agreement;
     let there = [
         counts_closed(s),
+        other,
         falls_short(agreement.padding, s.declared, s.total),
         message::too_few_blocks(settings::Settings::of(agreement), s.total),
-        message::room_short(agreement.m, room),
+        ten,
     ];
-    bits::first(&[11, 12, 9, 10], &there)
+    bits::first(&[11, 11, 12, 9, 10], &there)
 }
 
 // The tag of an open session, and zeros after it.
@@ -329,6 +426,31 @@ fn tag_block(s: Session) -> [u8; 16]
     };
     let hold = s.hold;
     chain::close(&t, k, hold, s.total)
+}
+
+// All its calls, start included.
+fn calls_in(s: Session) -> usize
+    requires { ⌜ tooFewBlocks (settingsOf (s .agreement)) (s .total) ≡ false ⌝ }
+    ensures { λ r. ⌜ r ≡ callsIn s ⌝ }
+{
+    let agreement = s.agreement;
+    chain::calls(cipher::SM4, settings::Settings::of(agreement), s.total)
+}
+
+// Whether the tag of an open session is the expected one; every byte of it is looked at.
+fn judged(s: Session) -> settings::Outcome
+    requires { ⌜ (s .agreement .m ≤ storage) × (tooFewBlocks (settingsOf (s .agreement)) (s .total) ≡ false) ⌝ }
+    ensures { λ r. ⌜ r ≡ judgedOf s ⌝ }
+{
+    let agreement = s.agreement;
+    let expected = s.expected;
+    let tag = tag_block(s);
+    let calls = calls_in(s);
+    let n = message::bytes_for(agreement.m);
+    if block::equal_bytes(&expected[..n], &tag[..n]) {
+        return settings::Outcome::Yes(calls);
+    }
+    settings::Outcome::No(calls)
 }
 
 impl Session {
@@ -354,21 +476,45 @@ impl Session {
     pub fn finish(self, room: &mut [u8]) -> Step
         ensures { λ r. ⌜ (r, now (room .exit)) ≡ finishOf self (now (room .entry)) ⌝ }
     {
-        let no = finish_refusal(self, room.len());
+        let purpose = self.purpose;
+        let agreement = self.agreement;
+        let no = finish_refusal(
+            self,
+            not_making(purpose),
+            message::room_short(agreement.m, room.len()),
+        );
         if no != 0 {
             return Step {
                 answer: settings::Outcome::Refused(no),
                 session: self,
             };
         }
-        let agreement = self.agreement;
         let tag = tag_block(self);
         block::put(tag, message::bytes_for(agreement.m), room);
+        let calls = calls_in(self);
         let shut = closed_session();
-        let s = settings::Settings::of(agreement);
-        let calls = chain::calls(cipher::SM4, s, self.total);
         Step {
             answer: settings::Outcome::Made(calls),
+            session: shut,
+        }
+    }
+
+    // The end of the message of a check: yes or no, and the session is closed.
+    pub fn finish_check(self) -> Step
+        ensures { λ r. ⌜ r ≡ finishCheckOf self ⌝ }
+    {
+        let purpose = self.purpose;
+        let no = finish_refusal(self, not_checking(purpose), false);
+        if no != 0 {
+            return Step {
+                answer: settings::Outcome::Refused(no),
+                session: self,
+            };
+        }
+        let answer = judged(self);
+        let shut = closed_session();
+        Step {
+            answer,
             session: shut,
         }
     }

@@ -1,5 +1,6 @@
 pub mod Crossing
 pub mod Runs
+pub mod CheckRuns
 pub mod Slips
 pub mod OddLengths
 pub mod Unique

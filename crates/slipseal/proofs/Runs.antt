@@ -1,6 +1,6 @@
--- The promises through C: said of every answer that the contracts of the exported functions allow. A struct goes from call to call, and
--- the record that it stands for goes the way of the session's own record (`handed-in`, `run-inward`). So a run of calls of any kind
--- ends with the definition's tag, calls and room for the joined bits of its accepted pieces (`c-joined`); two such runs of full tags
+-- The promises through C: said of every answer that the contracts of the exported functions allow. Runs that check a tag stand in
+-- CheckRuns.antt. A struct goes from call to call, and the record that it stands for goes the way of the session's own record
+-- (`handed-in`, `run-inward`). So a run of calls of any kind ends with the definition's tag, calls and room for the joined bits of its accepted pieces (`c-joined`); two such runs of full tags
 -- (`c-runs-differ`), and two calls of `slipseal_make` (`c-make-differs`), keep demand 3; a refused call hands back the very struct and
 -- leaves the room (`piece-back`, `finish-back`, `make-untouched`); an accepted start or piece leaves the session open (`start-open`,
 -- `piece-open`).
@@ -32,8 +32,8 @@ use Rattle.tag.proofs.Full.{n, size, full-differ}
 use Rattle.session.specs.declared.Session as session
 use Rattle.session.specs.declared.Step as session-step
 use Rattle.session.specs.Record.{cleared}
-use Rattle.session.specs.Calls.{startOf, pieceOf, finishOf}
-use Rattle.session.proofs.Joined.{Offered, Act, offers, ends, answered, handed, gathered, Running, ending, refused-piece, refused-finish, joined-bits}
+use Rattle.session.specs.Calls.{startOf, pieceOf, finishOf, finishCheckOf}
+use Rattle.session.proofs.Joined.{Offered, Act, offers, ends, checks, answered, handed, gathered, Running, ending, refused-piece, refused-finish, refused-check, joined-bits}
 use Rattle.session.proofs.StaysOpen.{start-opens, piece-opens}
 use Rattle.slipseal.specs.declared.Answer.{Answer}
 use Rattle.slipseal.specs.declared.Session.{Session}
@@ -48,6 +48,8 @@ use Rattle.slipseal.proofs.slipseal_piece.Kinds as piece-k
 use Rattle.slipseal.proofs.slipseal_piece.Reads as piece
 use Rattle.slipseal.proofs.slipseal_finish.Kinds as finish-k
 use Rattle.slipseal.proofs.slipseal_finish.Reads as finish
+use Rattle.slipseal.proofs.slipseal_finish_check.Kinds as finish-check-k
+use Rattle.slipseal.proofs.slipseal_finish_check.Reads as finish-check
 
 abbrev pub Making : (κs : Lfts 3) → Dens κs make-k.ps → Type 0
 Making κs a = Allowed make-k.ps make-k.r make.Learnt κs a
@@ -60,6 +62,9 @@ Pieced κs a = Allowed piece-k.ps piece-k.r piece.Learnt κs a
 
 abbrev pub Finished : (κs : Lfts 1) → Dens κs finish-k.ps → Type 0
 Finished κs a = Allowed finish-k.ps finish-k.r finish.Learnt κs a
+
+abbrev pub FinishedCheck : (κs : Lfts 0) → Dens κs finish-check-k.ps → Type 0
+FinishedCheck κs a = Allowed finish-check-k.ps finish-check-k.r finish-check.Learnt κs a
 
 abbrev pub offered : (κs : Lfts 1) → Dens κs piece-k.ps → Offered
 offered κs a = record { bytes = a .1 .0 .now; bits = a .1 .1 .0 }
@@ -184,18 +189,33 @@ module _ (κs : Lfts 1) (a : Dens κs finish-k.ps) (x : Finished κs a) where
   finish-in : inward (x .result .session) ≡ closing .0 .session
   finish-in = ap (λ (r : Step). inward (r .session)) (finish-is .0) ∙ handed-in (a .0) (closing .0) (λ u. refused-finish (inward (a .0)) (a .1 .0 .now) u .0)
 
+module _ (κs : Lfts 0) (a : Dens κs finish-check-k.ps) (x : FinishedCheck κs a) where
+  abbrev pub judging : session-step.Step
+  judging = finishCheckOf (inward (a .0))
+
+  pub finish-check-number : x .result .answer .number ≡ numberOf (judging .answer)
+  finish-check-number = ap (λ (r : Step). r .answer .number) (x .ensures) ∙ back-number (a .0) judging
+
+  pub finish-check-back : ¬ (x .result .answer .number ≡ 0) → x .result .session ≡ a .0
+  finish-check-back u = ap (λ (r : Step). r .session) (x .ensures) ∙ back-came (a .0) judging (λ z. u (finish-check-number ∙ z))
+
+  finish-check-in : inward (x .result .session) ≡ judging .session
+  finish-check-in = ap (λ (r : Step). inward (r .session)) (x .ensures) ∙ handed-in (a .0) judging (refused-check (inward (a .0)))
+
 -- ---- calls one after the other
 
 pub data Run : Session → List Act → Session → Type 0 where
   end : {s : Session} → Run s [] s
   pieced : {κs : Lfts 1} {a : Dens κs piece-k.ps} {cs : List Act} {z : Session} (x : Pieced κs a) → Run (x .result .session) cs z → Run (a .0) (offers (offered κs a) ∷ cs) z
   tried : {κs : Lfts 1} {a : Dens κs finish-k.ps} {cs : List Act} {z : Session} (x : Finished κs a) → Run (x .result .session) cs z → Run (a .0) (ends (a .1 .0 .now) ∷ cs) z
+  tried-check : {κs : Lfts 0} {a : Dens κs finish-check-k.ps} {cs : List Act} {z : Session} (x : FinishedCheck κs a) → Run (x .result .session) cs z → Run (a .0) (checks ∷ cs) z
 
-run-inward : {s z : Session} {cs : List Act} → Run s cs z → inward z ≡ handed (inward s) cs
+pub run-inward : {s z : Session} {cs : List Act} → Run s cs z → inward z ≡ handed (inward s) cs
 unfolding handed answered
 run-inward end = refl
 run-inward (pieced {κs} {a} {cs} x r) = run-inward r ∙ ap (λ (t : session.Session). handed t cs) (piece-in κs a x)
 run-inward (tried {κs} {a} {cs} x r) = run-inward r ∙ ap (λ (t : session.Session). handed t cs) (finish-in κs a x)
+run-inward (tried-check {κs} {a} {cs} x r) = run-inward r ∙ ap (λ (t : session.Session). handed t cs) (finish-check-in κs a x)
 
 -- a whole run: a start that was accepted, calls, a finish that made a tag
 pub record Ran : Type 0 where

@@ -9,10 +9,14 @@ use Rattle.slipseal.proofs.slipseal_check.Kinds as check-k
 use Rattle.slipseal.proofs.slipseal_check.Reads as slipseal-check
 use Rattle.slipseal.proofs.slipseal_start.Kinds as start-k
 use Rattle.slipseal.proofs.slipseal_start.Reads as slipseal-start
+use Rattle.slipseal.proofs.slipseal_start_check.Kinds as start-check-k
+use Rattle.slipseal.proofs.slipseal_start_check.Reads as slipseal-start-check
 use Rattle.slipseal.proofs.slipseal_piece.Kinds as piece-k
 use Rattle.slipseal.proofs.slipseal_piece.Reads as slipseal-piece
 use Rattle.slipseal.proofs.slipseal_finish.Kinds as finish-k
 use Rattle.slipseal.proofs.slipseal_finish.Reads as slipseal-finish
+use Rattle.slipseal.proofs.slipseal_finish_check.Kinds as finish-check-k
+use Rattle.slipseal.proofs.slipseal_finish_check.Reads as slipseal-finish-check
 use Rattle.slipseal.proofs.slipseal_read.Kinds as read-k
 use Rattle.slipseal.proofs.slipseal_read.Reads as slipseal-read
 use Rattle.slipseal.proofs.slipseal_gather.Kinds as gather-k
@@ -31,11 +35,17 @@ check-unique κs a g p x y = (same (x .ensures) (y .ensures), refl)
 pub start-unique : Unique start-k.ps start-k.r slipseal-start.Asked slipseal-start.Learnt
 start-unique κs a g p x y = (same (x .ensures) (y .ensures), refl)
 
+pub start-check-unique : Unique start-check-k.ps start-check-k.r slipseal-start-check.Asked slipseal-start-check.Learnt
+start-check-unique κs a g p x y = (same (x .ensures) (y .ensures), refl)
+
 pub piece-unique : Unique piece-k.ps piece-k.r slipseal-piece.Asked slipseal-piece.Learnt
 piece-unique κs a g p x y = (same (x .ensures) (y .ensures), refl)
 
 pub finish-unique : Unique finish-k.ps finish-k.r slipseal-finish.Asked slipseal-finish.Learnt
 finish-unique κs a g p x y = let e = same (x .ensures) (y .ensures) in (λ i. e i .0, λ i. (tt, (e i .1, tt)))
+
+pub finish-check-unique : Unique finish-check-k.ps finish-check-k.r slipseal-finish-check.Asked slipseal-finish-check.Learnt
+finish-check-unique κs a g p x y = (same (x .ensures) (y .ensures), refl)
 
 pub read-unique : Unique read-k.ps read-k.r slipseal-read.Asked slipseal-read.Learnt
 read-unique κs a g p x y = (same (x .ensures) (y .ensures), refl)

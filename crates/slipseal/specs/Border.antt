@@ -2,7 +2,7 @@
 -- Assumes nothing.
 use mathlib.Core.List.{List}
 use Prim.Native.Nat.{ℕ}
-use lib.Dec.{eqb}
+use lib.Dec.{eqb, ltb}
 use Rattle.bits.specs.Choice.{pick}
 use Rattle.settings.specs.Answers.{numberOf, reportedCalls}
 use Rattle.settings.specs.declared.Outcome as settings
@@ -13,6 +13,8 @@ use Rattle.session.specs.declared.Session as session
 use Rattle.session.specs.declared.Step as session-step
 use Rattle.session.specs.declared.Phase.{Phase}
 use Rattle.session.specs.declared.Phase.the-variants.{Closed, Edge, Part}
+use Rattle.session.specs.declared.Purpose.{Purpose}
+use Rattle.session.specs.declared.Purpose.the-variants.{Making, Checking}
 use Rattle.slip.specs.declared.Slip as slip
 use Rattle.slipseal.specs.declared.Answer.{Answer}
 use Rattle.slipseal.specs.declared.Session.{Session}
@@ -50,9 +52,19 @@ toldSlip r = record {
 
 -- ---- in and out
 
--- 0 closed, 1 at a byte edge, 2 after a part byte; any other number, and a part count at a byte edge, are closed
-unfoldable pub phaseFrom : ℕ → ℕ → Phase
-phaseFrom phase part = pick (eqb phase 2) (Part part) (pick (eqb phase 1) (pick (eqb part 0) Edge Closed) Closed)
+-- 0 closed, 1 at a byte edge, 2 after a part byte; any other number, a part count at a byte edge, and a purpose other than 0 and 1
+-- are closed
+unfoldable pub phaseFrom : ℕ → ℕ → ℕ → Phase
+phaseFrom phase part purpose =
+    pick (ltb 1 purpose) Closed (pick (eqb phase 2) (Part part) (pick (eqb phase 1) (pick (eqb part 0) Edge Closed) Closed))
+
+-- 0 making, 1 checking
+unfoldable pub purposeFrom : ℕ → Purpose
+purposeFrom purpose = pick (eqb purpose 1) Checking Making
+
+unfoldable pub purposeNumber : Purpose → ℕ
+purposeNumber Making = 0
+purposeNumber Checking = 1
 
 unfoldable pub phaseNumber : Phase → ℕ
 phaseNumber Closed = 0
@@ -66,24 +78,28 @@ partNumber (Part n) = n
 
 unfoldable pub inward : Session → session.Session
 inward r = record {
-  phase = phaseFrom (r .phase) (r .part);
+  phase = phaseFrom (r .phase) (r .part) (r .purpose);
+  purpose = purposeFrom (r .purpose);
   agreement = r .agreement;
   declared = r .declared;
   total = r .total;
   keys = r .keys;
   hold = record { value = r .chain; held = r .held };
+  expected = r .expected;
 }
 
 unfoldable pub outward : session.Session → Session
 outward s = record {
   phase = phaseNumber (s .phase);
   part = partNumber (s .phase);
+  purpose = purposeNumber (s .purpose);
   agreement = s .agreement;
   declared = s .declared;
   total = s .total;
   keys = s .keys;
   chain = s .hold .value;
   held = s .hold .held;
+  expected = s .expected;
 }
 
 -- ---- the answer with a session

@@ -2,12 +2,12 @@
 // crosses as numbers and arrays; any content of it is answered, and a refusal hands back the very struct that came.
 ghost use mathlib.Core.Path.{_≡_};
 ghost use Rattle.tag.specs.OneCall.{makeOf, checkOf};
-ghost use Rattle.session.specs.Calls.{startOf, pieceOf, finishOf};
+ghost use Rattle.session.specs.Calls.{startOf, startCheckOf, pieceOf, finishOf, finishCheckOf};
 ghost use Rattle.slip.specs.Slip.{readOf};
 ghost use Rattle.slip.specs.Gathering.{held, addOf};
 ghost use Rattle.slip.specs.Printed.{writeOf};
 ghost use Rattle.writing.specs.Writing.{said};
-ghost use Rattle.slipseal.specs.Border.{toldOf, toldMake, toldSlip, phaseFrom, phaseNumber, partNumber, inward, outward, handedOut, handedBack, finishedBack};
+ghost use Rattle.slipseal.specs.Border.{toldOf, toldMake, toldSlip, phaseFrom, phaseNumber, partNumber, purposeFrom, purposeNumber, inward, outward, handedOut, handedBack, finishedBack};
 
 // number: 0, or the refusal's. yes: 1 for a made tag, a good finish and a checked yes, else 0.
 #[repr(C)]
@@ -17,17 +17,19 @@ pub struct Answer {
     pub calls: usize,
 }
 
-// phase: 0 closed, 1 at a byte edge, 2 after a part byte, whose 1 to 7 bits are told by part.
+// phase: 0 closed, 1 at a byte edge, 2 after a part byte, whose 1 to 7 bits are told by part. purpose: 0 making, 1 checking.
 #[repr(C)]
 pub struct Session {
     pub phase: usize,
     pub part: usize,
+    pub purpose: usize,
     pub agreement: settings::Agreement,
     pub declared: usize,
     pub total: usize,
     pub keys: [u8; 32],
     pub chain: [u8; 16],
     pub held: [u8; 16],
+    pub expected: [u8; 16],
 }
 
 // number: 0, or the refusal's. The lot is the lot_len bytes of the slip from lot_at on.
@@ -111,9 +113,13 @@ pub extern "C" fn slipseal_check(
 
 // ---- a session in and out
 
-fn phase_from(phase: usize, part: usize) -> session::Phase
-    ensures { λ r. ⌜ r ≡ phaseFrom phase part ⌝ }
+// A purpose other than 0 and 1 closes the session, whatever its phase.
+fn phase_from(phase: usize, part: usize, purpose: usize) -> session::Phase
+    ensures { λ r. ⌜ r ≡ phaseFrom phase part purpose ⌝ }
 {
+    if 1 < purpose {
+        return session::Phase::Closed;
+    }
     if phase == 2 {
         return session::Phase::Part(part);
     }
@@ -146,22 +152,44 @@ fn part_number(phase: session::Phase) -> usize
     }
 }
 
+fn purpose_from(purpose: usize) -> session::Purpose
+    ensures { λ r. ⌜ r ≡ purposeFrom purpose ⌝ }
+{
+    if purpose == 1 {
+        return session::Purpose::Checking;
+    }
+    session::Purpose::Making
+}
+
+fn purpose_number(purpose: session::Purpose) -> usize
+    ensures { λ r. ⌜ r ≡ purposeNumber purpose ⌝ }
+{
+    match purpose {
+        session::Purpose::Making => 0,
+        session::Purpose::Checking => 1,
+    }
+}
+
 fn session_from(came: Session) -> session::Session
     ensures { λ s. ⌜ s ≡ inward came ⌝ }
 {
-    let phase = phase_from(came.phase, came.part);
+    let phase = phase_from(came.phase, came.part, came.purpose);
+    let purpose = purpose_from(came.purpose);
     let agreement = came.agreement;
     let keys = came.keys;
     let value = came.chain;
     let held = came.held;
     let hold = chain::Hold { value, held };
+    let expected = came.expected;
     session::Session {
         phase,
+        purpose,
         agreement,
         declared: came.declared,
         total: came.total,
         keys,
         hold,
+        expected,
     }
 }
 
@@ -169,20 +197,24 @@ fn session_out(s: session::Session) -> Session
     ensures { λ r. ⌜ r ≡ outward s ⌝ }
 {
     let phase = s.phase;
+    let purpose = s.purpose;
     let agreement = s.agreement;
     let keys = s.keys;
     let hold = s.hold;
     let chain = hold.value;
     let held = hold.held;
+    let expected = s.expected;
     Session {
         phase: phase_number(phase),
         part: part_number(phase),
+        purpose: purpose_number(purpose),
         agreement,
         declared: s.declared,
         total: s.total,
         keys,
         chain,
         held,
+        expected,
     }
 }
 
@@ -228,6 +260,18 @@ pub extern "C" fn slipseal_start(
 }
 
 #[no_mangle]
+pub extern "C" fn slipseal_start_check(
+    agreement: settings::Agreement,
+    keys: &[u8],
+    declared: usize,
+    tag: &[u8],
+) -> Step
+    ensures { λ r. ⌜ r ≡ handedOut (startCheckOf agreement (now (keys .entry)) declared (now (tag .entry))) ⌝ }
+{
+    handed_out(session::start_check(agreement, keys, declared, tag))
+}
+
+#[no_mangle]
 pub extern "C" fn slipseal_piece(came: Session, bytes: &[u8], bits: usize) -> Step
     ensures { λ r. ⌜ r ≡ handedBack came (pieceOf (inward came) (now (bytes .entry)) bits) ⌝ }
 {
@@ -241,6 +285,14 @@ pub extern "C" fn slipseal_finish(came: Session, room: &mut [u8]) -> Step
 {
     let s = session_from(came);
     handed_back(came, s.finish(room))
+}
+
+#[no_mangle]
+pub extern "C" fn slipseal_finish_check(came: Session) -> Step
+    ensures { λ r. ⌜ r ≡ handedBack came (finishCheckOf (inward came)) ⌝ }
+{
+    let s = session_from(came);
+    handed_back(came, s.finish_check())
 }
 
 // ---- a slip

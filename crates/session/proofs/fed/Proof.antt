@@ -32,14 +32,14 @@ feed-requires c κs =
 returns : tie.Need-returns
 unfolding fedOf standing stateIn bitsOf
 returns c =
-    let fed = c .before .before .before in
+    let fed = c .before .before .before .before in
     let at = fed .before .before .before in
     let start = at .before .before .before .before .before .before in
     let a = start .args in
     let s = a .s in
     let hold = fed .feed .ensures (keysIn s) (rounds at)
     ∙ ap (λ (S : Settings). holdOf (absorb (cipherAt 1 .n) (stepsAt 1 (S .algorithm) (keysIn s)) (stateAt (cipherAt 1 .n) (S .padding) (s .total) (s .hold)) (take (a .bits) (bytesBits (a .bytes .now))))) (at .before .before .of .ensures) in
-    rw (hold, c .before .phase-at .ensures)
+    rw (hold, c .before .before .phase-at .ensures)
     (ap (λ (n : ℕ). standing s (s .total + n) (absorb (cipherAt 1 .n) (stepsIn s) (stateIn s) (bitsOf (a .bytes .now) (a .bits)))) (sym (length-bitsOf (a .bytes .now) (a .bits) (start .pre .0))))
 
 pub fed-spec : {M : Type 1} → statement M

@@ -1,6 +1,6 @@
--- `phase_from` meets its contract: the three phases by their numbers, anything else closed.
+-- `phase_from` meets its contract: an odd purpose closed, the three phases by their numbers, anything else closed.
 -- Assumes nothing.
-use borrow.Author.Tests.{eq-eqb, ne-eqb}
+use borrow.Author.Tests.{eq-eqb, ne-eqb, lt-ltb, le-ltb}
 use Rattle.bits.specs.Choice.{pick}
 use Rattle.slipseal.specs.Border.{phaseFrom}
 use Rattle.slipseal.proofs.phase_from.Statement.{statement}
@@ -8,19 +8,25 @@ use Rattle.slipseal.proofs.phase_from.Tie as tie
 
 returns : tie.Need-returns
 unfolding phaseFrom pick
-returns c = simp (eq-eqb _ _ (c .if1 .taken))
+returns c = simp (lt-ltb 1 _ (c .if1 .taken))
 
 returns-2 : tie.Need-returns-2
 unfolding phaseFrom pick
-returns-2 c = simp (ne-eqb _ _ (c .before .if1 .left), ne-eqb _ _ (c .if2 .taken))
+returns-2 c = simp (le-ltb 1 _ (c .before .if1 .left), eq-eqb _ _ (c .if2 .taken))
 
 returns-3 : tie.Need-returns-3
 unfolding phaseFrom pick
-returns-3 c = simp (ne-eqb _ _ (c .before .before .if1 .left), eq-eqb _ _ (c .before .if2 .left), ne-eqb _ _ (c .if3 .taken))
+returns-3 c = simp (le-ltb 1 _ (c .before .before .if1 .left), ne-eqb _ _ (c .before .if2 .left), ne-eqb _ _ (c .if3 .taken))
 
 returns-4 : tie.Need-returns-4
 unfolding phaseFrom pick
-returns-4 c = simp (ne-eqb _ _ (c .before .before .if1 .left), eq-eqb _ _ (c .before .if2 .left), eq-eqb _ _ (c .if3 .left))
+returns-4 c =
+    simp (le-ltb 1 _ (c .before .before .before .if1 .left), ne-eqb _ _ (c .before .before .if2 .left), eq-eqb _ _ (c .before .if3 .left), ne-eqb _ _ (c .if4 .taken))
+
+returns-5 : tie.Need-returns-5
+unfolding phaseFrom pick
+returns-5 c =
+    simp (le-ltb 1 _ (c .before .before .before .if1 .left), ne-eqb _ _ (c .before .before .if2 .left), eq-eqb _ _ (c .before .if3 .left), eq-eqb _ _ (c .if4 .left))
 
 pub phase-from-spec : {M : Type 1} → statement M
-phase-from-spec = tie.close (tie.spec returns returns-2 returns-3 returns-4)
+phase-from-spec = tie.close (tie.spec returns returns-2 returns-3 returns-4 returns-5)

@@ -1,24 +1,18 @@
--- `finish` meets its contract: the refusal with record and room as they came, or the tag's bytes put into the room (`room-is`) and
--- as many calls as the definition's list has (`calls-listed`).
+-- `finish` meets its contract: the refusal with record and room as they came, or the tag's bytes put into the room (`room-is`).
 -- Assumes nothing.
 use mathlib.Core.Path.{_≡_, sym, ap, _∙_}
 use native.Mathlib.Omega.{arith}
 use borrow.Author.Tests.{eq-eqb, ne-eqb}
 use lib.ListN.{length}
+use Prim.Native.Nat.{ℕ}
+use Rattle.bits.specs.Choice.{firstOf}
 use Rattle.bits.proofs.Choice.{hit, miss}
-use Rattle.cipher.specs.Cipher.{Cipher}
-use Rattle.cipher.specs.Ciphers.{cipherAt}
-use Rattle.mac.specs.declared.Row.{Row}
-use Rattle.mac.specs.Padding.{methodAt, blockCount}
-use Rattle.mac.specs.Algorithm.{algorithmAt, row}
-use Prim.Native.Nat.{ℕ, _+_}
 use Rattle.mac.specs.Tag.{bytesFor}
-use Rattle.settings.specs.declared.Settings.{Settings}
 use Rattle.settings.specs.declared.Outcome.the-variants.{Made, Refused}
 use Rattle.session.specs.declared.Session.{Session}
-use Rattle.session.specs.Calls.{finishOf}
-use Rattle.session.proofs.Open.{Ended, ended}
-use Rattle.session.proofs.Answers.{room-is, calls-listed}
+use Rattle.session.specs.Calls.{endFaults, finishFaults, finishOf}
+use Rattle.session.proofs.Open.{Ended, ended, room-wide}
+use Rattle.session.proofs.Answers.{room-is}
 use borrow.Author.Needs.{needs}
 use Rattle.session.proofs.Session.finish.Statement.{statement}
 use Rattle.session.proofs.Session.finish.Tie as tie
@@ -27,41 +21,52 @@ use Rattle.session.proofs.Session.finish.Tie as tie
 blocks : (c : tie.Start) → (length (c .args .self .hold .value) ≡ 16) × (length (c .args .self .hold .held) ≡ 16)
 blocks c = search needs
 
+-- the refusal, with the purpose and the room told
+refusal : (c : tie.After-finish-refusal)
+    → let a = c .before .before .before .before .before .args in c .finish-refusal .result ≡ firstOf (finishFaults (a .self) (length (a .room .now)))
+unfolding finishFaults
+refusal c =
+    let a = c .before .before .before .before .before .args in
+    c .finish-refusal .ensures ∙ λ i. firstOf (endFaults (a .self) (c .before .before .not-making .ensures i) (c .before .room-short .ensures i))
+
 returns : tie.Need-returns
 unfolding finishOf
 returns c =
     let at = c .before in
-    let refused = at .finish-refusal .ensures in
-    let a = at .before .before .args in
-    miss _ _ _ _ (ne-eqb _ 0 (λ z. c .if1 .taken (refused ∙ z))) (ap (λ (n : ℕ). (record { answer = Refused n; session = a .self }, a .room .now)) refused)
+    let a = at .before .before .before .before .before .args in
+    miss _ _ _ _ (ne-eqb _ 0 (λ z. c .if1 .taken (refusal at ∙ z))) (ap (λ (n : ℕ). (record { answer = Refused n; session = a .self }, a .room .now)) (refusal at))
 
 -- a finish that is not refused
-goes : (c : tie.Else1) → let a = c .before .before .before .args in Ended (a .self) (length (a .room .now))
-goes c = let a = c .before .before .before .args in ended (a .self) (length (a .room .now)) (sym (c .before .finish-refusal .ensures) ∙ c .if1 .left)
+sound : (c : tie.Else1) → let a = c .before .before .before .before .before .before .args in firstOf (finishFaults (a .self) (length (a .room .now))) ≡ 0
+sound c = sym (refusal (c .before)) ∙ c .if1 .left
+
+goes : (c : tie.Else1) → Ended (c .before .before .before .before .before .before .args .self)
+unfolding finishFaults
+goes c = ended (c .before .before .before .before .before .before .args .self) _ _ (sound c)
 
 put-requires : tie.Need-put-requires
 unfolding bytesFor
 put-requires c κs =
-    let f = goes (c .before .before .before .before) in
-    rw (c .before .bytes-for .ensures) (omega (arith, f .stands .short), f .wide)
+    let at = c .before .before .before in
+    let a = at .before .before .before .before .before .before .args in
+    rw (c .before .bytes-for .ensures) (omega (arith, goes at .stands .short), room-wide (a .self) (length (a .room .now)) (sound at))
+
+calls-in-requires : tie.Need-calls-in-requires
+calls-in-requires c κs = goes (c .before .before .before .before .before .before) .enough
 
 returns-2 : tie.Need-returns-2
 unfolding finishOf
 returns-2 c =
-    let put = c .before .before .before .before .before in
+    let put = c .before .before .before .before in
     let made = put .before .before .before in
-    let at = made .before .before in
-    let start = at .before .before .before in
+    let at = made .before in
+    let start = at .before .before .before .before .before .before in
     let a = start .args in
-    let total = a .self .total in
-    let f = goes at in
-    let room = room-is (a .self) (blocks start .0) (blocks start .1) (f .stands .short) (made .tag-block .result) (a .room .now) _ (put .before .before .bytes-for .result) (search needs) (made .tag-block .ensures) (put .before .before .bytes-for .ensures) (put .put .ensures) in
-    let counted : c .calls .result ≡ blockCount (methodAt (c .before .of .result .padding)) (cipherAt 1 .n) total + row (algorithmAt (c .before .of .result .algorithm)) .further = c .calls .ensures in
-    let calls = counted ∙ ap (λ (S : Settings). blockCount (methodAt (S .padding)) (cipherAt 1 .n) total + row (algorithmAt (S .algorithm)) .further) (c .before .of .ensures) ∙ calls-listed (a .self) (f .enough) in
-    hit _ _ _ _ (eq-eqb _ 0 (sym (at .before .finish-refusal .ensures) ∙ at .if1 .left)) (λ i. (record { answer = Made (calls i); session = c .before .before .closed-session .ensures i }, room i))
+    let room = room-is (a .self) (blocks start .0) (blocks start .1) (goes at .stands .short) (made .tag-block .result) (a .room .now) _ (put .before .before .bytes-for .result) (search needs) (made .tag-block .ensures) (put .before .before .bytes-for .ensures) (put .put .ensures) in
+    hit _ _ _ _ (eq-eqb _ 0 (sound at)) (λ i. (record { answer = Made (c .before .calls-in .ensures i); session = c .closed-session .ensures i }, room i))
 
 pub finish-spec : {M : Type 1} → statement M
 finish-spec =
     tie.close
-    (tie.spec (λ c κs. search needs) returns (λ c κs. search needs) (λ c κs. search needs) put-requires (λ c κs. search needs)
-    (λ c κs. search needs) (λ c κs. search needs) (λ c. search needs) returns-2)
+    (tie.spec (λ c κs. search needs) (λ c κs. search needs) (λ c κs. search needs) returns (λ c κs. search needs) (λ c κs. search needs)
+    put-requires calls-in-requires (λ c κs. search needs) (λ c. search needs) returns-2)
