@@ -512,10 +512,10 @@ impl Session {
             };
         }
         let answer = judged(self);
-        let shut = closed_session();
+        let closed = closed_session();
         Step {
             answer,
-            session: shut,
+            session: closed,
         }
     }
 }
