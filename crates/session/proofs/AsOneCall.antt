@@ -36,7 +36,7 @@ use Rattle.tag.specs.OneCall.{oneCallFaults, madeBy, makeOf}
 use Rattle.tag.proofs.Numbers.{madeOf, make-faults, sound-made, made-of}
 use Rattle.session.specs.declared.Session.{Session}
 use Rattle.session.specs.declared.Step.{Step}
-use Rattle.session.specs.Record.{standing, notMaking}
+use Rattle.session.specs.Record.{standing, isCheck}
 use Rattle.session.specs.Calls.{startFaults, freshOf, declaredAt, startOf, fallsShort, endFaults, finishFaults, finishOf}
 use Rattle.session.proofs.Open.{Open, opens, ended}
 use Rattle.session.proofs.Stood.{stood}
@@ -63,7 +63,7 @@ past k b fs e = rw e refl
 
 -- the faults of its finish, its purpose being to make
 stood-faults : (A : Agreement) (s : List ℕ) (d : ℕ) (x : Bits) (room : ℕ) → finishFaults (stood A s d x) room ≡ endFaults (stood A s d x) false (roomShort (A .m) room)
-unfolding finishFaults notMaking stood standing freshOf
+unfolding finishFaults isCheck stood standing freshOf
 stood-faults A s d x room = refl
 
 -- ---- a session that runs after the bits x; what is said of its faults holds for either purpose (`aimed-end`)

@@ -28,7 +28,7 @@ use Rattle.tag.proofs.Numbers.{tagged, listed, verdictOf, check-faults, sound-c
 use Rattle.session.specs.declared.Purpose.the-variants.{Checking}
 use Rattle.session.specs.declared.Session.{Session}
 use Rattle.session.specs.declared.Step.{Step}
-use Rattle.session.specs.Record.{cleared, aimed, notChecking, countsClosed}
+use Rattle.session.specs.Record.{cleared, aimed, isCheck, countsClosed}
 use Rattle.session.specs.Calls.{startFaults, declaredAt, startCheckOf, endFaults, finishCheckFaults, finishCheckOf}
 use Rattle.session.proofs.Open.{ended}
 use Rattle.session.proofs.Purposes.{aimed-closed, aimed-end}
@@ -38,7 +38,7 @@ use Rattle.session.proofs.AsOneCall.{Holds, lastTwo, end-last, one-call
 
 -- the faults of its finish, its purpose being to check
 aimed-faults : (e : List ℕ) (s : Session) → firstOf (finishCheckFaults (aimed Checking e s)) ≡ firstOf (endFaults s false false)
-unfolding finishCheckFaults notChecking aimed
+unfolding finishCheckFaults isCheck aimed
 aimed-faults e s = ap firstOf (aimed-end Checking e s false false)
 
 -- ---- a session that runs after the bits x
@@ -135,7 +135,7 @@ module _ (A : Agreement) (s : List ℕ) (d : ℕ) (tag : List ℕ) (u : Unrefuse
             let three = eqb-true (A .padding) 3 p in
             let e = after-stood b u cs runs in (
               λ nine. absurd (never-nine A s d g x (stood-runs runs) three false
-              (sym (aimed-faults (front tag) (stood A s d x)) ∙ sym (finish-check-faults (aimed Checking (front tag) (stood A s d x))) ∙ ap (λ (t : Session). numberOf (finishCheckOf t .answer)) (sym e) ∙ nine)),
+                  (sym (aimed-faults (front tag) (stood A s d x)) ∙ sym (finish-check-faults (aimed Checking (front tag) (stood A s d x))) ∙ ap (λ (t : Session). numberOf (finishCheckOf t .answer)) (sym e) ∙ nine)),
               λ nine. absurd (one-never-nine A s d g x (stood-runs runs) three bytes l h (tagLengthWrong (A .m) (length tag)) (sym (check-faults A s bytes l tag) ∙ nine)),
             )
         go false p =

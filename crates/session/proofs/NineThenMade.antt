@@ -34,7 +34,7 @@ use Rattle.tag.proofs.Numbers.{made-of, make-sound}
 use Rattle.session.specs.declared.Purpose.the-variants.{Making}
 use Rattle.session.specs.declared.Session.{Session}
 use Rattle.session.specs.declared.Step.{Step}
-use Rattle.session.specs.Record.{standing, notMaking}
+use Rattle.session.specs.Record.{standing, isCheck}
 use Rattle.session.specs.Calls.{freshOf, startOf, fallsShort, endFaults, finishFaults, finishOf}
 use Rattle.session.proofs.Purposes.{aimed-closed}
 use Rattle.session.proofs.Stood.{stood, stood-making}
@@ -97,7 +97,7 @@ module _ (s : List ℕ) (m : ℕ) (block : List ℕ) (byte : ℕ) (room : List �
       ∙ stood-making (four m) s 129 halfway
 
   pub nine-first : numberOf (finishOf (handed begun (offers whole ∷ [])) room .0 .answer) ≡ 9
-  unfolding finishFaults endFaults notMaking fallsShort stood standing freshOf tooFewBlocks blockCount prefix suffix gap complete zeros pick methodAt algorithmAt cipherAt
+  unfolding finishFaults endFaults isCheck fallsShort stood standing freshOf tooFewBlocks blockCount prefix suffix gap complete zeros pick methodAt algorithmAt cipherAt
   nine-first =
       ap (λ (t : Session). numberOf (finishOf t room .0 .answer)) at-half ∙ finish-faults (stood (four m) s 129 halfway) room
       ∙ given-first (later (sym (aimed-closed Making (replicate 16 0) (stood (four m) s 129 halfway)) ∙ stays-open Making (replicate 16 0) (four m) s (length all) 129 (roomShort m (length room)) clear halfway (omega (arith, long-half))) (later refl (later refl (here few))))

@@ -5,7 +5,7 @@
 -- one (`check-aimed`).
 -- Assumes nothing.
 use mathlib.Core.Path.{_≡_, refl, sym, ap, _∙_}
-use mathlib.Core.Bool.{Bool, true, false}
+use mathlib.Core.Bool.{Bool, true, false, not}
 use mathlib.Core.List.{List, [], _∷_, _++_}
 use Prim.Native.Nat.{ℕ}
 use lib.Dec.{eqb}
@@ -22,7 +22,7 @@ use Rattle.session.specs.declared.Purpose.{Purpose}
 use Rattle.session.specs.declared.Purpose.the-variants.{Making, Checking}
 use Rattle.session.specs.declared.Session.{Session}
 use Rattle.session.specs.declared.Step.{Step}
-use Rattle.session.specs.Record.{cleared, stateIn, aimed, notMaking, notChecking, closedFaults, countsClosed}
+use Rattle.session.specs.Record.{cleared, stateIn, aimed, isCheck, closedFaults, countsClosed}
 use Rattle.session.specs.Calls.{pieceFaults, fedOf, pieceOf, fallsShort, endFaults, finishFaults, finishCheckFaults, tagIn, callsIn, finishOf, judgedOf, finishCheckOf}
 use Rattle.session.proofs.Purposes.{aimed-fed, aimed-tag, aimed-calls, aimed-piece, aimed-end}
 
@@ -37,35 +37,35 @@ module _ (s : Session) where
       go false = refl
 
   pub other-finish : s .purpose ≡ Checking → (room : List ℕ) → finishOf s room ≡ (record { answer = Refused 11; session = s }, room)
-  unfolding finishOf finishFaults notMaking pick
+  unfolding finishOf finishFaults isCheck pick
   other-finish e room =
-      let no : firstOf (endFaults s (notMaking (s .purpose)) (roomShort (s .agreement .m) (length room))) ≡ 11 = ap (λ (p : Purpose). firstOf (endFaults s (notMaking p) (roomShort (s .agreement .m) (length room)))) e ∙ other-first (roomShort (s .agreement .m) (length room)) in
+      let no : firstOf (endFaults s (isCheck (s .purpose)) (roomShort (s .agreement .m) (length room))) ≡ 11 = ap (λ (p : Purpose). firstOf (endFaults s (isCheck p) (roomShort (s .agreement .m) (length room)))) e ∙ other-first (roomShort (s .agreement .m) (length room)) in
       rw no refl
 
   pub other-check : s .purpose ≡ Making → finishCheckOf s ≡ record { answer = Refused 11; session = s }
-  unfolding finishCheckOf finishCheckFaults notChecking pick
+  unfolding finishCheckOf finishCheckFaults isCheck pick
   other-check e =
-      let no : firstOf (endFaults s (notChecking (s .purpose)) false) ≡ 11 = ap (λ (p : Purpose). firstOf (endFaults s (notChecking p) false)) e ∙ other-first false in
+      let no : firstOf (endFaults s (not (isCheck (s .purpose))) false) ≡ 11 = ap (λ (p : Purpose). firstOf (endFaults s (not (isCheck p)) false)) e ∙ other-first false in
       rw no refl
 
   -- a session that makes a tag, as before
   module _ (room : List ℕ) where
     abbrev fault : ℕ
     fault = firstOf (
-      11 given countsClosed s ∷
-      12 given fallsShort (s .agreement .padding) (s .declared) (s .total) ∷
-      9 given tooFewBlocks (settingsOf (s .agreement)) (s .total) ∷
-      10 given roomShort (s .agreement .m) (length room) ∷
-      [])
+        11 given countsClosed s ∷
+        12 given fallsShort (s .agreement .padding) (s .declared) (s .total) ∷
+        9 given tooFewBlocks (settingsOf (s .agreement)) (s .total) ∷
+        10 given roomShort (s .agreement .m) (length room) ∷
+        [])
 
     pub as-before : s .purpose ≡ Making
         → finishOf s room
         ≡ pick (eqb fault 0)
         (record { answer = Made (callsIn s); session = cleared }, tagBytes (tagIn s) ++ drop (bytesFor (s .agreement .m)) room)
         (record { answer = Refused fault; session = s }, room)
-    unfolding finishOf finishFaults endFaults notMaking firstOf pick
+    unfolding finishOf finishFaults endFaults isCheck firstOf pick
     as-before e =
-        let same : firstOf (endFaults s (notMaking (s .purpose)) (roomShort (s .agreement .m) (length room))) ≡ fault = ap (λ (p : Purpose). firstOf (endFaults s (notMaking p) (roomShort (s .agreement .m) (length room)))) e in
+        let same : firstOf (endFaults s (isCheck (s .purpose)) (roomShort (s .agreement .m) (length room))) ≡ fault = ap (λ (p : Purpose). firstOf (endFaults s (isCheck p) (roomShort (s .agreement .m) (length room)))) e in
         rw same refl
 
 -- ---- the record of another purpose, or with another tag expected
@@ -126,7 +126,7 @@ check-aimed e s mine same = ap (λ (n : ℕ). answer (aimed Checking e s) n) fau
     answer t n = pick {A = Step} (eqb n 0) (record { answer = judgedOf t; session = cleared }) (record { answer = Refused n; session = t }) .answer
 
     faults : firstOf (finishCheckFaults (aimed Checking e s)) ≡ no
-    faults = ap firstOf (aimed-end Checking e s _ false) ∙ ap (λ (p : Purpose). firstOf (endFaults s (notChecking p) false)) (sym mine)
+    faults = ap firstOf (aimed-end Checking e s _ false) ∙ ap (λ (p : Purpose). firstOf (endFaults s (not (isCheck p)) false)) (sym mine)
 
     judged : judgedOf (aimed Checking e s) ≡ judgedOf s
     judged = ap (λ (w : List ℕ). pick (sameBytes w (tagBytes (tagIn s))) (Yes (callsIn s)) (No (callsIn s))) same

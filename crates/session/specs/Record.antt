@@ -79,13 +79,9 @@ aimed p e s = record {
   expected = e;
 }
 
-unfoldable pub notMaking : Purpose → Bool
-notMaking Making = false
-notMaking Checking = true
-
-unfoldable pub notChecking : Purpose → Bool
-notChecking Making = true
-notChecking Checking = false
+unfoldable pub isCheck : Purpose → Bool
+isCheck Making = false
+isCheck Checking = true
 
 -- ---- when it counts as closed (01, "Numbered answers"); its purpose and the expected tag have no part in it
 

@@ -15,7 +15,7 @@ ghost use Rattle.settings.specs.Answers.{numberOf, settingsOf};
 ghost use Rattle.message.specs.Faults.{tooFewBlocks};
 ghost use Rattle.chain.specs.Chain.{roundsBits, roundsOf};
 ghost use Rattle.session.specs.declared.Purpose.the-variants.{Checking};
-ghost use Rattle.session.specs.Record.{cleared, aimed, notMaking, notChecking, phaseAt, phaseUnfit, settingsUnsound, passesDeclared, declaredTooLong, strayBit, countsClosed, keysIn};
+ghost use Rattle.session.specs.Record.{cleared, aimed, isCheck, phaseAt, phaseUnfit, settingsUnsound, passesDeclared, declaredTooLong, strayBit, countsClosed, keysIn};
 ghost use Rattle.session.specs.Calls.{refusedStart, freshOf, declaredAt, startUnder, startOf, startCheckOf, lateBits, pieceFaults, fedOf, pieceOf, fallsShort, endFaults, tagIn, callsIn, finishOf, judgedOf, finishCheckOf};
 
 // Open at a byte edge, open after a part byte of 1 to 7 bits, or closed.
@@ -76,23 +76,13 @@ fn closed_session() -> Session
     }
 }
 
-// Whether a session of this purpose is not one that makes a tag, and so has another finish.
-fn not_making(purpose: Purpose) -> bool
-    ensures { λ r. ⌜ r ≡ notMaking purpose ⌝ }
+// Whether a session of this purpose checks a tag.
+fn is_check(purpose: Purpose) -> bool
+    ensures { λ r. ⌜ r ≡ isCheck purpose ⌝ }
 {
     match purpose {
         Purpose::Making => false,
         Purpose::Checking => true,
-    }
-}
-
-// And not one that checks a tag.
-fn not_checking(purpose: Purpose) -> bool
-    ensures { λ r. ⌜ r ≡ notChecking purpose ⌝ }
-{
-    match purpose {
-        Purpose::Making => true,
-        Purpose::Checking => false,
     }
 }
 
@@ -480,7 +470,7 @@ impl Session {
         let agreement = self.agreement;
         let no = finish_refusal(
             self,
-            not_making(purpose),
+            is_check(purpose),
             message::room_short(agreement.m, room.len()),
         );
         if no != 0 {
@@ -504,7 +494,7 @@ impl Session {
         ensures { λ r. ⌜ r ≡ finishCheckOf self ⌝ }
     {
         let purpose = self.purpose;
-        let no = finish_refusal(self, not_checking(purpose), false);
+        let no = finish_refusal(self, !is_check(purpose), false);
         if no != 0 {
             return Step {
                 answer: settings::Outcome::Refused(no),

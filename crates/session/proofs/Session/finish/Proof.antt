@@ -27,7 +27,7 @@ refusal : (c : tie.After-finish-refusal)
 unfolding finishFaults
 refusal c =
     let a = c .before .before .before .before .before .args in
-    c .finish-refusal .ensures ∙ λ i. firstOf (endFaults (a .self) (c .before .before .not-making .ensures i) (c .before .room-short .ensures i))
+    c .finish-refusal .ensures ∙ λ i. firstOf (endFaults (a .self) (c .before .before .is-check .ensures i) (c .before .room-short .ensures i))
 
 returns : tie.Need-returns
 unfolding finishOf

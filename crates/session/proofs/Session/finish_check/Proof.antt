@@ -1,7 +1,7 @@
 -- `finish_check` meets its contract: the refusal with the record as it came, or yes or no with the record cleared.
 -- Assumes nothing.
 use mathlib.Core.Path.{_≡_, sym, ap, _∙_}
-use mathlib.Core.Bool.{Bool, false}
+use mathlib.Core.Bool.{Bool, false, not}
 use Prim.Native.Nat.{ℕ}
 use borrow.Author.Tests.{eq-eqb, ne-eqb}
 use Rattle.bits.specs.Choice.{firstOf}
@@ -17,7 +17,7 @@ use Rattle.session.proofs.Session.finish_check.Tie as tie
 -- the refusal, with the purpose told
 refusal : (c : tie.After-finish-refusal) → c .finish-refusal .result ≡ firstOf (finishCheckFaults (c .before .before .args .self))
 unfolding finishCheckFaults
-refusal c = c .finish-refusal .ensures ∙ ap (λ (b : Bool). firstOf (endFaults (c .before .before .args .self) b false)) (c .before .not-checking .ensures)
+refusal c = c .finish-refusal .ensures ∙ ap (λ (b : Bool). firstOf (endFaults (c .before .before .args .self) (not b) false)) (c .before .is-check .ensures)
 
 returns : tie.Need-returns
 unfolding finishCheckOf
