@@ -37,7 +37,7 @@
  *    8  the message has more than 8388608 bits
  *    9  the message is too short for the algorithm
  *   10  the tag or the room for it has the wrong number of bytes
- *   11  the session is closed or its last piece ended within a byte
+ *   11  the session is closed or for the other purpose, or its last piece ended within a byte
  *   12  the message is not as long as was declared
  *   20  the slip is cut short
  *   21  a field is missing or out of order
@@ -65,8 +65,8 @@
 extern "C" {
 #endif
 
-/* What a call answers. number: 0, or the refusal's. yes: 1 for a made tag, a good finish and a tag checked to be right, else 0.
- * calls: the cipher calls of the whole message; 0 for a refusal, a start and a piece.
+/* What a call answers. number: 0, or the refusal's. yes: 1 for a tag made and for a tag checked to be right, in one call or at the
+ * end of a session; else 0. calls: the cipher calls of the whole message; 0 for a refusal, a start and a piece.
  * A checked tag is right where yes is 1. Number 0 alone does not say so: a wrong tag gives number 0 and yes 0. */
 typedef struct slipseal_answer {
     uint64_t number;
@@ -83,6 +83,7 @@ typedef struct slipseal_agreement {
 
 /* A session's record. It goes into each call by value and the next one comes back; hand it on unaltered. Any content is answered.
  * A record counts as closed where
+ *   - its purpose is neither 0 nor 1;
  *   - it is neither in phase 1 with part 0 and total % 8 = 0, nor in phase 2 with part 1 to 7 and total % 8 = part;
  *   - a start would refuse its agreement or keys;
  *   - its total is over 8388608, or under padding 3 its declared length is, or its total is over its declared length;
@@ -90,12 +91,15 @@ typedef struct slipseal_agreement {
 typedef struct slipseal_session {
     uint64_t phase;               /* 0 closed, 1 open at a byte edge, 2 open after a part byte */
     uint64_t part;                /* the bits of the part byte, 1 to 7, in phase 2; else 0 */
+    uint64_t purpose;             /* 0 making a tag, 1 checking one */
     slipseal_agreement agreement; /* as it was given to the start */
     uint64_t declared;            /* under padding 3 the declared number of bits; else 0 after a start, and not read */
     uint64_t total;               /* the bits so far */
     uint8_t keys[32];             /* K, then K'; zeros after a start, and not read, where the algorithm takes one key */
     uint8_t chain[16];            /* the chain value */
     uint8_t held[16];             /* the waiting block; no bits while total is 0, else (total - 1) % 128 + 1 */
+    uint8_t expected[16];         /* the tag to be checked, (m + 7) / 8 bytes as they were given; the others, and all where a tag
+                                   * is made, are zeros after a start, and not read */
 } slipseal_session;
 
 /* What a session's call answers, and the record for the next call. */
@@ -141,22 +145,37 @@ slipseal_answer slipseal_make(slipseal_agreement agreement, const uint8_t *keys,
 slipseal_answer slipseal_check(slipseal_agreement agreement, const uint8_t *keys, size_t keys_len, const uint8_t *message,
                                size_t message_len, size_t bits, const uint8_t *tag, size_t tag_len);
 
-/* Starts a session. declared is the message's number of bits; it is read under padding 3 only. Refusals: 1 to 6, rising, then 8
- * where the declared length is over 8388608. A refused start hands back a closed record of zeros. Otherwise the answer is all
- * zeros and the record is open. */
+/* Starts a session that makes a tag. declared is the message's number of bits; it is read under padding 3 only. Refusals: 1 to 6,
+ * rising, then 8 where the declared length is over 8388608. A refused start hands back a closed record of zeros. Otherwise the
+ * answer is all zeros and the record is open. */
 slipseal_step slipseal_start(slipseal_agreement agreement, const uint8_t *keys, size_t keys_len, size_t declared);
 
-/* Gives a session the next bits of the message; no bits are allowed. Only the last bits given may end within a byte. Refusals, in
- * this order: 11 where the session is closed, or bits are given after a part byte; 7; 8 where the message would pass 8388608 bits;
- * 12 where under padding 3 it would pass the declared length. A refusal hands back the very record that came. Otherwise the answer
- * is all zeros and the record is open. */
+/* Starts a session that checks a tag, for a message that comes in pieces after its tag. declared is as for slipseal_start.
+ * Refusals: 1 to 6, rising, then 8 where the declared length is over 8388608, and last 10 where tag_len is not (m + 7) / 8. A
+ * refused start hands back a closed record of zeros. Otherwise the answer is all zeros and the record is open. It holds the tag's
+ * bytes as they were given, spare bits too; nothing is said of them before slipseal_finish_check. */
+slipseal_step slipseal_start_check(slipseal_agreement agreement, const uint8_t *keys, size_t keys_len, size_t declared,
+                                   const uint8_t *tag, size_t tag_len);
+
+/* Gives a session of either purpose the next bits of the message; no bits are allowed. Only the last bits given may end within a
+ * byte. Refusals, in this order: 11 where the session is closed, or bits are given after a part byte; 7; 8 where the message would
+ * pass 8388608 bits; 12 where under padding 3 it would pass the declared length. A refusal hands back the very record that came.
+ * Otherwise the answer is all zeros and the record is open, its purpose and expected tag as before. */
 slipseal_step slipseal_piece(slipseal_session session, const uint8_t *bytes, size_t bytes_len, size_t bits);
 
-/* Ends a session. Refusals, in this order: 11 where the session is closed; 12 where under padding 3 fewer bits came than declared;
- * 9; 10 where tag_len is under (m + 7) / 8. A refusal hands back the very record that came, so that more bits or more room may
- * follow. Otherwise the tag is written as by slipseal_make, the answer has number 0, yes 1 and all the calls since the start, and
- * the record is closed and zero throughout. */
+/* Ends a session that makes a tag. Refusals, in this order: 11 where the session is closed, or checks a tag; 12 where under
+ * padding 3 fewer bits came than declared; 9; 10 where tag_len is under (m + 7) / 8. A refusal hands back the very record that
+ * came, so that more bits or more room may follow; a session that checks stays open. Otherwise the tag is written as by
+ * slipseal_make, the answer has number 0, yes 1 and all calls since the start, and the record is closed and zero throughout. */
 slipseal_step slipseal_finish(slipseal_session session, uint8_t *tag, size_t tag_len);
+
+/* Ends a session that checks a tag. Refusals, in this order: 11 where the session is closed, or makes a tag; 12 where under
+ * padding 3 fewer bits came than declared; 9. A refusal hands back the very record that came, so that more bits may follow; a
+ * session that makes a tag stays open. Otherwise the answer is that of slipseal_check for the whole message: number 0, yes 1 where
+ * the tag that the start was given is the message's and 0 where it is not (a set spare bit too), and either way all the calls
+ * since the start. Nothing is written. A no closes the session as a yes does: the record is zero throughout, the expected tag too.
+ * The caller goes by yes and compares nothing itself. bindings/c/example.c checks a certificate that comes in reads. */
+slipseal_step slipseal_finish_check(slipseal_session session);
 
 /* Reads a lot slip under keys and what was agreed with its supplier. The agreement is handed in and never taken from the slip, and
  * the seal is checked under it. Do not copy the three values that a slip names into the agreement: whoever makes the slip would

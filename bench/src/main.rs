@@ -39,6 +39,17 @@ fn agree_on_make(what: &str, agreement: Agreement, key: &[u8], message: &[u8], p
     tagged
 }
 
+/// A check, in one call and in a session, gives this yes and these calls.
+fn agree_on_check(what: &str, key: &[u8], message: &[u8], tag: &[u8], yes: u64, calls: u64) {
+    agree(what, work::library_check(key, message, tag), [0, yes, calls]);
+    agree(&format!("{what}, in a session"), work::library_check_session(key, message, tag), [0, yes, calls]);
+    agree(
+        &format!("{what}, in the baseline's session"),
+        work::baseline_check_session(key, message, tag),
+        [0, yes, calls],
+    );
+}
+
 fn agree_on_slip(what: &str, key: &[u8], slip: &[u8], number: u64) {
     let read = work::library_slip(key, slip);
     agree(what, read, work::baseline_slip(key, slip));
@@ -65,6 +76,9 @@ fn main() {
     let tagged = agree_on_make("make, algorithm 1", one, key, message, &[]);
     agree("session", work::library_session(key, message), tagged);
     agree("the baseline's session", work::baseline_session(key, message), tagged);
+    let (tag, [_, _, calls]) = &tagged;
+    agree_on_check("check", key, message, tag, 1, *calls);
+    agree_on_check("check of a wrong tag", key, message, &tag.map(|byte| byte ^ 1), 0, *calls);
     let cmac = agree_on_make("make, algorithm 5", five, key, message, &peers);
     agree_on_make("make on 16 bytes, algorithm 1", one, key, short, &[]);
     agree_on_make("make on 16 bytes, algorithm 5", five, key, short, &peers);
@@ -83,6 +97,12 @@ fn main() {
     let mut lines = [
         work::make_line("make on 1 MiB, algorithm 1, MiB a second", 1, one, key, message, &[]),
         work::session_line("session of 64 KiB pieces over 1 MiB, algorithm 1, MiB a second", key, message),
+        work::check_line(
+            "check in a session of 32 KiB pieces over 1 MiB, algorithm 1, MiB a second",
+            key,
+            message,
+            tag,
+        ),
         work::make_line(
             "make on 1 MiB, algorithm 5 (CMAC), MiB a second",
             1,

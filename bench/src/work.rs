@@ -1,5 +1,6 @@
-//! The measured work, each piece as the library, the baseline and, for CMAC, the peers do it: a tag in one call, a session, a slip
-//! read, a slip gathered and read, a slip written. Answers are turned into plain numbers, so that they can be compared.
+//! The measured work, each piece as the library, the baseline and, for CMAC, the peers do it: a tag in one call, a session, a check
+//! in a session, a slip read, a slip gathered and read, a slip written. Answers are turned into plain numbers, so that they can be
+//! compared.
 
 use crate::measure::{Line, Way};
 use crate::peer::Peer;
@@ -10,6 +11,8 @@ use std::hint::black_box;
 pub const MESSAGE_BYTES: usize = 1 << 20;
 pub const SHORT_BYTES: usize = 16;
 const PIECE_BYTES: usize = 64 << 10;
+/// Of a check in a session: the chunks of the bindings.
+const CHUNK_BYTES: usize = 32 << 10;
 /// How often a short piece of work is done each time.
 pub const SHORT_CALLS: usize = 1000;
 
@@ -57,6 +60,30 @@ pub fn baseline_session(key: &[u8], message: &[u8]) -> Tagged {
     let mut tag = [0; 16];
     let (_, answer) = session::finish(record, &mut tag);
     (tag, [answer.number, answer.yes, answer.calls])
+}
+
+/// The tag checked in one call; number, yes and calls.
+pub fn library_check(key: &[u8], message: &[u8], tag: &[u8]) -> [u64; 3] {
+    let answer = raw::check(agreed(1, 1), key, message, 8 * message.len(), tag);
+    [answer.number, answer.yes, answer.calls]
+}
+
+pub fn library_check_session(key: &[u8], message: &[u8], tag: &[u8]) -> [u64; 3] {
+    let mut step = raw::start_check(agreed(1, 1), key, 0, tag);
+    for chunk in message.chunks(CHUNK_BYTES) {
+        step = raw::piece(step.session, chunk, 8 * chunk.len());
+    }
+    let answer = raw::finish_check(step.session).answer;
+    [answer.number, answer.yes, answer.calls]
+}
+
+pub fn baseline_check_session(key: &[u8], message: &[u8], tag: &[u8]) -> [u64; 3] {
+    let (mut record, _) = session::start_check(of_baseline(agreed(1, 1)), key, 0, tag);
+    for chunk in message.chunks(CHUNK_BYTES) {
+        (record, _) = session::piece(record, chunk, 8 * chunk.len() as u64);
+    }
+    let (_, answer) = session::finish_check(record);
+    [answer.number, answer.yes, answer.calls]
 }
 
 /// The slip of the example: what it says, and what is agreed on it.
@@ -154,6 +181,15 @@ pub fn session_line<'a>(what: &'static str, key: &'a [u8], message: &'a [u8]) ->
     let library = move || library_session(key, black_box(message));
     let baseline = move || baseline_session(key, black_box(message));
     line(what, 1, library, baseline)
+}
+
+/// The library's check in one call stands beside its check in a session.
+pub fn check_line<'a>(what: &'static str, key: &'a [u8], message: &'a [u8], tag: &'a [u8]) -> Line<'a> {
+    let library = move || library_check_session(key, black_box(message), tag);
+    let baseline = move || baseline_check_session(key, black_box(message), tag);
+    let mut line = line(what, 1, library, baseline);
+    line.ways.push(Way::new("in one call", move || library_check(key, black_box(message), tag)));
+    line
 }
 
 pub fn slip_line<'a>(what: &'static str, key: &'a [u8], slip: &'a [u8]) -> Line<'a> {

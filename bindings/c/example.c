@@ -1,5 +1,6 @@
 /* Writes one lot slip, reads it back as a scanner delivers it, in odd lengths, and says what it is. Then a slip comes in one read
- * whose tag fits, but over one bit, which was not agreed. The first slip and the key are those of the documents' example:
+ * whose tag fits, but over one bit, which was not agreed. Last a certificate comes, its tag first and then its text in reads, and
+ * is checked as it comes; and once more with one letter changed. The first slip and the key are those of the documents' example:
  * 4 November 2026, lot A7, 500 microlitres. */
 #define _POSIX_C_SOURCE 200809L
 #include <errno.h>
@@ -14,6 +15,9 @@ static const uint8_t lot[2] = {'A', '7'};
 
 /* Algorithm, padding and m, as agreed with the supplier: from the program's own records, never from a slip. */
 static const slipseal_agreement agreement = {5, 4, 64};
+
+/* The tag of a certificate, 8 bytes, and its text. */
+static uint8_t certificate[] = "\x69\x2C\x43\x71\x00\xF3\xB5\xEE" "This is the test message for mac";
 
 static uint64_t refused(uint64_t number)
 {
@@ -32,19 +36,78 @@ static uint64_t say(slipseal_slip read, const uint8_t *bytes)
     return 0;
 }
 
-/* The driver's loop: all reads of the scanner to its end of input, which is a count of 0 alone. -1 for an error. */
+/* A pipe stands for the line of the scanner. Its end to read from, with these bytes in it; -1 for an error. */
+static int scan(const uint8_t *bytes, size_t length)
+{
+    int line[2];
+    if (pipe(line) != 0 || write(line[1], bytes, length) != (ssize_t)length || close(line[1]) != 0) {
+        return -1;
+    }
+    return line[0];
+}
+
+/* The next read of the scanner. 0 alone is the end of input; -1 for an error. */
+static ssize_t next(int scanner, uint8_t *bytes, size_t length)
+{
+    ssize_t count;
+    do {
+        count = read(scanner, bytes, length);
+    } while (count < 0 && errno == EINTR);
+    return count;
+}
+
+/* The driver's loop: all reads of the scanner to its end of input. -1 for an error. */
 static int gather(int scanner, slipseal_gathered *gathered)
 {
     uint8_t bytes[20];
     ssize_t count;
-    while ((count = read(scanner, bytes, sizeof bytes)) != 0) {
-        if (count > 0) {
-            *gathered = slipseal_gather(*gathered, bytes, (size_t)count);
-        } else if (errno != EINTR) {
-            return -1;
-        }
+    while ((count = next(scanner, bytes, sizeof bytes)) > 0) {
+        *gathered = slipseal_gather(*gathered, bytes, (size_t)count);
     }
+    return (int)count;
+}
+
+/* Checks a certificate as it comes: the tag, which may take several reads too, then the text to the end of input. The answer is
+ * that of the first refusal, or the finish's yes or no. -1 for an error. */
+static int check(int scanner, slipseal_answer *answer)
+{
+    uint8_t tag[8], bytes[20];
+    size_t length = 0;
+    ssize_t count = 1;
+    slipseal_step step;
+    while (length < sizeof tag && (count = next(scanner, tag + length, sizeof tag - length)) > 0) {
+        length += (size_t)count;
+    }
+    if (count < 0) {
+        return -1;
+    }
+    step = slipseal_start_check(agreement, key, sizeof key, 0, tag, length);
+    while (step.answer.number == 0 && (count = next(scanner, bytes, sizeof bytes)) > 0) {
+        step = slipseal_piece(step.session, bytes, (size_t)count, 8 * (size_t)count);
+    }
+    if (count < 0) {
+        return -1;
+    }
+    *answer = step.answer.number == 0 ? slipseal_finish_check(step.session).answer : step.answer;
     return 0;
+}
+
+/* Says what the check of the certificate answers: 1 yes, 0 no, -1 where there is no answer. */
+static int say_certificate(void)
+{
+    slipseal_answer answer;
+    const int scanner = scan(certificate, sizeof certificate - 1);
+    if (scanner < 0 || check(scanner, &answer) != 0) {
+        perror("scanner");
+        return -1;
+    }
+    close(scanner);
+    if (answer.number != 0) {
+        refused(answer.number);
+        return -1;
+    }
+    printf("certificate: %s, %" PRIu64 " calls\n", answer.yes == 1 ? "yes" : "no", answer.calls);
+    return answer.yes == 1;
 }
 
 int main(void)
@@ -53,7 +116,7 @@ int main(void)
     slipseal_written written;
     slipseal_gathered gathered = {0};
     uint8_t slip[75]; /* the longest there is */
-    int line[2];
+    int scanner;
 
     written = slipseal_write(agreement, key, sizeof key, 2026, 11, 4, lot, sizeof lot, 500, slip, sizeof slip);
     if (written.number != 0) {
@@ -62,16 +125,24 @@ int main(void)
     }
     printf("written: %" PRIu64 " bytes, %" PRIu64 " calls\n", written.length, written.calls);
 
-    /* A pipe stands for the line of the scanner. */
-    if (pipe(line) != 0 || write(line[1], slip, written.length) != (ssize_t)written.length || close(line[1]) != 0 ||
-        gather(line[0], &gathered) != 0) {
+    scanner = scan(slip, written.length);
+    if (scanner < 0 || gather(scanner, &gathered) != 0) {
         perror("scanner");
         return 1;
     }
+    close(scanner);
     if (say(slipseal_read_gathered(agreement, key, sizeof key, gathered), gathered.bytes) != 0) {
         return 1;
     }
 
     written = slipseal_write(one_bit, key, sizeof key, 2026, 11, 4, lot, sizeof lot, 500, slip, sizeof slip);
-    return say(slipseal_read(agreement, key, sizeof key, slip, written.length), slip) == 25 ? 0 : 1;
+    if (say(slipseal_read(agreement, key, sizeof key, slip, written.length), slip) != 25) {
+        return 1;
+    }
+
+    if (say_certificate() != 1) {
+        return 1;
+    }
+    certificate[8 + 17]++;
+    return say_certificate() == 0 ? 0 : 1;
 }

@@ -1,15 +1,6 @@
 /* Tests of the header against the library: the layout of the structs, and each function accepted and refused, with all that it
- * hands back. The many inputs are tried by the Rust and Python tests. */
-#include <stdio.h>
-#include <string.h>
-
-#include "slipseal.h"
-
-static const uint8_t key[16] = {0x01, 0x23, 0x45, 0x67, 0x89, 0xAB, 0xCD, 0xEF, 0xFE, 0xDC, 0xBA, 0x98, 0x76, 0x54, 0x32, 0x10};
-static const uint8_t message[] = "This is the test message for mac";
-
-/* Annex A.6, algorithm 5, padding 4, 64 bits. */
-static const uint8_t printed[8] = {0x69, 0x2C, 0x43, 0x71, 0x00, 0xF3, 0xB5, 0xEE};
+ * hands back. Checks in a session are in checking.c. The many inputs are tried by the Rust and Python tests. */
+#include "expect.h"
 
 /* 4 November 2026, lot A7, 500 microlitres, under algorithm 5, padding 4, 64 bits. */
 static const uint8_t example[37] = {
@@ -20,58 +11,19 @@ static const uint8_t example[37] = {
 static const slipseal_agreement example_agreed = {5, 4, 64};
 static const slipseal_slip example_read = {0, 2026, 11, 4, 500, 3, 14, 2};
 
-static int tests, failures;
-
-static void expect(int holds, const char *what)
-{
-    tests++;
-    if (!holds) {
-        failures++;
-        printf("failed: %s\n", what);
-    }
-}
-
-static int is(slipseal_answer a, uint64_t number, uint64_t yes, uint64_t calls)
-{
-    return a.number == number && a.yes == yes && a.calls == calls;
-}
-
-static slipseal_agreement agreed(uint64_t algorithm, uint64_t padding, uint64_t m)
-{
-    slipseal_agreement agreement;
-    agreement.algorithm = algorithm;
-    agreement.padding = padding;
-    agreement.m = m;
-    return agreement;
-}
-
-static int filled(const uint8_t *bytes, size_t length, uint8_t byte)
-{
-    size_t i;
-    for (i = 0; i < length; i++) {
-        if (bytes[i] != byte) {
-            return 0;
-        }
-    }
-    return 1;
-}
-
-static int same(const slipseal_session *a, const slipseal_session *b)
-{
-    return memcmp(a, b, sizeof *a) == 0;
-}
-
 static void layout(void)
 {
     expect(sizeof(slipseal_answer) == 24, "size of an answer");
     expect(sizeof(slipseal_agreement) == 24, "size of an agreement");
     expect(offsetof(slipseal_agreement, padding) == 8 && offsetof(slipseal_agreement, m) == 16, "order in an agreement");
-    expect(sizeof(slipseal_session) == 120, "size of a session");
-    expect(offsetof(slipseal_session, agreement) == 16, "place of the agreement");
-    expect(offsetof(slipseal_session, declared) == 40, "place of the declared length");
-    expect(offsetof(slipseal_session, keys) == 56, "place of the keys");
-    expect(offsetof(slipseal_session, held) == 104, "place of the waiting block");
-    expect(sizeof(slipseal_step) == 144, "size of a step");
+    expect(sizeof(slipseal_session) == 144, "size of a session");
+    expect(offsetof(slipseal_session, purpose) == 16, "place of the purpose");
+    expect(offsetof(slipseal_session, agreement) == 24, "place of the agreement");
+    expect(offsetof(slipseal_session, declared) == 48, "place of the declared length");
+    expect(offsetof(slipseal_session, keys) == 64, "place of the keys");
+    expect(offsetof(slipseal_session, held) == 112, "place of the waiting block");
+    expect(offsetof(slipseal_session, expected) == 128, "place of the expected tag");
+    expect(sizeof(slipseal_step) == 168, "size of a step");
     expect(sizeof(slipseal_slip) == 64, "size of a slip");
     expect(sizeof(slipseal_gathered) == 88, "size of a gathered slip");
     expect(offsetof(slipseal_gathered, count) == 0 && offsetof(slipseal_gathered, bytes) == 8, "order in a gathered slip");
@@ -161,22 +113,6 @@ static void forged(void)
     expect(is(step.answer, 11, 0, 0) && same(&step.session, &record), "a forged record in a piece");
     step = slipseal_finish(record, tag, 16);
     expect(is(step.answer, 11, 0, 0) && same(&step.session, &record) && filled(tag, 16, 0), "a forged record in a finish");
-}
-
-/* A record that holds the byte 61, with a chain value and a second key from nowhere. */
-static slipseal_session record_of(slipseal_agreement agreement, uint64_t declared, uint64_t total)
-{
-    slipseal_session record;
-    memset(&record, 0, sizeof record);
-    record.phase = 1;
-    record.agreement = agreement;
-    record.declared = declared;
-    record.total = total;
-    memcpy(record.keys, key, 16);
-    memset(record.keys + 16, 0xC3, 16);
-    memset(record.chain, 0x5A, 16);
-    record.held[0] = 'a';
-    return record;
 }
 
 static void piece_hands_back(slipseal_session record, size_t bytes, size_t bits, uint64_t number)
@@ -622,6 +558,5 @@ int main(void)
     refused_writes();
     rooms();
     no_bytes();
-    printf("c: %d tests, %d failed\n", tests, failures);
-    return failures != 0;
+    return told_all("c");
 }

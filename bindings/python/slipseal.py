@@ -24,17 +24,19 @@ import datetime
 import errno
 import operator
 import os
-from typing import BinaryIO, NamedTuple, Optional, Tuple, Union
+from typing import BinaryIO, Callable, NamedTuple, Optional, Tuple, Union
 
 __all__ = [
     "Agreement",
     "Checked",
+    "CheckingSession",
     "Made",
     "Refused",
     "Session",
     "Slip",
     "SlipReader",
     "check",
+    "check_file",
     "make",
     "read_slip",
     "read_slip_from",
@@ -43,6 +45,7 @@ __all__ = [
 
 Bytes = Union[bytes, bytearray, memoryview]
 Date = Union[datetime.date, Tuple[int, int, int]]
+Path = Union[str, bytes, "os.PathLike[str]"]
 
 WORDS = {
     1: "the algorithm is not one of 1 to 8",
@@ -55,7 +58,7 @@ WORDS = {
     8: "the message has more than 8388608 bits",
     9: "the message is too short for the algorithm",
     10: "the tag or the room for it has the wrong number of bytes",
-    11: "the session is closed or its last piece ended within a byte",
+    11: "the session is closed or for the other purpose, or its last piece ended within a byte",
     12: "the message is not as long as was declared",
     20: "the slip is cut short",
     21: "a field is missing or out of order",
@@ -158,13 +161,30 @@ def check(agreement: Agreement, keys: Bytes, message: Bytes, tag: Bytes, bits: O
     answer = _library.slipseal_check(
         _agreed(agreement), *_slice(keys), *_slice_and_bits(message, bits), *_slice(tag)
     )
-    _accept(answer.number)
-    return Checked(answer.yes == 1, answer.calls)
+    return _checked(answer)
 
 
-class Session:
-    """A message that comes in pieces, cut anyhow; the tag is that of the whole. The session holds the keys. A good finish closes
-    it, and a refusal leaves it as it was. Calls from several threads must not meet in one session.
+class _Pieces:
+    """What the sessions of both purposes share."""
+
+    _record: "_Record"
+
+    @property
+    def closed(self) -> bool:
+        """Whether a finish has closed the session."""
+        return self._record.phase == 0
+
+    def piece(self, message: Bytes, bits: Optional[int] = None) -> None:
+        """Gives the next bits of the message; only the last may end within a byte. Refused with the first that applies of 11, 7,
+        8, 12."""
+        step = _library.slipseal_piece(self._record, *_slice_and_bits(message, bits))
+        self._record = step.session
+        _accept(step.answer.number)
+
+
+class Session(_Pieces):
+    """A message that comes in pieces, cut anyhow; the tag that is made is that of the whole. The session holds the keys. A good
+    finish closes it, and a refusal leaves it as it was. Calls from several threads must not meet in one session.
 
     >>> agreement = Agreement(1, 3, 128)
     >>> session = Session(agreement, bytes(16), declared=20)
@@ -186,18 +206,6 @@ class Session:
         _accept(step.answer.number)
         self._record = step.session
 
-    @property
-    def closed(self) -> bool:
-        """Whether a good finish has closed the session."""
-        return self._record.phase == 0
-
-    def piece(self, message: Bytes, bits: Optional[int] = None) -> None:
-        """Gives the next bits of the message; only the last may end within a byte. Refused with the first that applies of 11, 7,
-        8, 12."""
-        step = _library.slipseal_piece(self._record, *_slice_and_bits(message, bits))
-        self._record = step.session
-        _accept(step.answer.number)
-
     def finish(self) -> Made:
         """Ends the session. Refused with the first that applies of 11, 12, 9; more bits may then follow."""
         room, m = _room(16), self._record.agreement.m
@@ -205,6 +213,84 @@ class Session:
         self._record = step.session
         _accept(step.answer.number)
         return _made(room, m, step.answer)
+
+
+class CheckingSession(_Pieces):
+    """A message that comes in pieces, cut anyhow, after its tag, which is checked. The session holds the keys and the tag. A finish
+    closes it, whether the answer is true or false, and a refusal leaves it as it was. Calls from several threads must not meet in
+    one session.
+
+    >>> key = bytes.fromhex("0123456789ABCDEFFEDCBA9876543210")
+    >>> session = CheckingSession(Agreement(5, 4, 64), key, 0, bytes.fromhex("692c437100f3b5ee"))
+    >>> for page in b"This is the test ", b"message", b" for mac":
+    ...     session.piece(page)
+    >>> session.finish()
+    Checked(yes=True, calls=3)
+    >>> session.closed
+    True
+    """
+
+    def __init__(self, agreement: Agreement, keys: Bytes, declared: int, tag: Bytes) -> None:
+        """Starts. declared is the message's number of bits, read under padding 3 only. Refused with the first that applies of 1
+        to 6, then 8 for the declared length, and last 10 where the tag is not exactly (m + 7) // 8 bytes."""
+        step = _library.slipseal_start_check(_agreed(agreement), *_slice(keys), *_numbers(declared), *_slice(tag))
+        _accept(step.answer.number)
+        self._record = step.session
+
+    def finish(self) -> Checked:
+        """Ends the session and tells whether the tag is the message's, as check does for the whole message; a wrong tag raises
+        nothing. Refused with the first that applies of 11, 12, 9; more bits may then follow."""
+        step = _library.slipseal_finish_check(self._record)
+        self._record = step.session
+        return _checked(step.answer)
+
+
+def check_file(
+    agreement: Agreement,
+    keys: Bytes,
+    file: Union[Path, BinaryIO],
+    tag: Bytes,
+    on_progress: Optional[Callable[[int], object]] = None,
+    declared: Optional[int] = None,
+) -> Checked:
+    """Checks a certificate under its tag while it is read, in chunks of up to 32 KiB: each read is one piece of a CheckingSession.
+    The file is a path, or a binary file: anything with read(n), a pipe without a buffer too, from where it stands to its end of
+    input. After each chunk on_progress is told the number of bytes so far; an exception that it raises ends the check.
+
+    Under padding 3 the number of bits must be known at the start. It is that of the file, which must then be able to seek, unless
+    it is declared here; a file that grows or shrinks meanwhile is refused with 12.
+
+    The answer is true or false, as that of check for the whole certificate; a wrong tag raises nothing. Refused with the first that
+    applies, and no more is read: those of a CheckingSession's start before the first read; 8, or 12 under padding 3, at the chunk
+    that makes the certificate too long; 12 and 9 at its end.
+
+    An error of the file comes through, and nothing is then said of the certificate. Where read(n) gives None, a non-blocking file
+    has no bytes yet; that is no end of input, and BlockingIOError is raised. A file opened as text raises TypeError.
+
+    >>> import io
+    >>> key, agreement = bytes.fromhex("0123456789ABCDEFFEDCBA9876543210"), Agreement(5, 4, 64)
+    >>> scanner = io.BytesIO(bytes.fromhex("692c437100f3b5ee") + b"This is the test message for mac")
+    >>> tag = scanner.read(8)
+    >>> check_file(agreement, key, scanner, tag, on_progress=print)
+    32
+    Checked(yes=True, calls=3)
+    >>> bool(check_file(agreement, key, io.BytesIO(b"This is the test"), tag))
+    False
+    """
+    if not hasattr(file, "read"):
+        with open(os.fspath(file), "rb", buffering=0) as opened:
+            return check_file(agreement, keys, opened, tag, on_progress, declared)
+    if declared is None:
+        declared = _bits_left(file) if agreement.padding == 3 else 0
+    session, total = CheckingSession(agreement, keys, declared, tag), 0
+    while True:
+        data = _read(file, 32 << 10)
+        session.piece(data)
+        if len(data) == 0:
+            return session.finish()
+        total += len(data)
+        if on_progress is not None:
+            on_progress(total)
 
 
 def read_slip(agreement: Agreement, keys: Bytes, slip: Bytes) -> Slip:
@@ -308,9 +394,7 @@ def read_slip_from(agreement: Agreement, keys: Bytes, file: BinaryIO) -> Slip:
     """
     reader = SlipReader()
     while True:
-        data = file.read(64)
-        if data is None:
-            raise BlockingIOError(errno.EAGAIN, "the file has no bytes yet and has not ended")
+        data = _read(file, 64)
         reader.feed(data)
         if len(data) == 0:
             return reader.read(agreement, keys)
@@ -382,6 +466,22 @@ def _room(length: int) -> "ctypes.Array[ctypes.c_uint8]":
     return (ctypes.c_uint8 * length)()
 
 
+def _read(file: BinaryIO, length: int) -> bytes:
+    """The next bytes of a file, none at its end alone."""
+    data = file.read(length)
+    if data is None:
+        raise BlockingIOError(errno.EAGAIN, "the file has no bytes yet and has not ended")
+    return data
+
+
+def _bits_left(file: BinaryIO) -> int:
+    """From where the file stands to its end."""
+    here = file.tell()
+    end = file.seek(0, os.SEEK_END)
+    file.seek(here)
+    return 8 * max(end - here, 0)
+
+
 def _accept(number: int) -> None:
     if number != 0:
         raise Refused(number)
@@ -399,12 +499,14 @@ class _Record(ctypes.Structure):
     _fields_ = [
         ("phase", ctypes.c_uint64),
         ("part", ctypes.c_uint64),
+        ("purpose", ctypes.c_uint64),
         ("agreement", _Agreement),
         ("declared", ctypes.c_uint64),
         ("total", ctypes.c_uint64),
         ("keys", ctypes.c_uint8 * 32),
         ("chain", ctypes.c_uint8 * 16),
         ("held", ctypes.c_uint8 * 16),
+        ("expected", ctypes.c_uint8 * 16),
     ]
 
 
@@ -435,6 +537,11 @@ def _made(room: "ctypes.Array[ctypes.c_uint8]", m: int, answer: _Answer) -> Made
     return Made(bytes(room)[: (m + 7) // 8], answer.calls)
 
 
+def _checked(answer: _Answer) -> Checked:
+    _accept(answer.number)
+    return Checked(answer.yes == 1, answer.calls)
+
+
 def _slip(read: _Slip, slip: bytes) -> Slip:
     """What is told of a slip, with the lot out of the bytes that were read."""
     _accept(read.number)
@@ -456,8 +563,10 @@ def _loaded() -> ctypes.CDLL:
         ("make", [_Agreement] + lent + lent + [number] + room, _Answer),
         ("check", [_Agreement] + lent + lent + [number] + lent, _Answer),
         ("start", [_Agreement] + lent + [number], _Step),
+        ("start_check", [_Agreement] + lent + [number] + lent, _Step),
         ("piece", [_Record] + lent + [number], _Step),
         ("finish", [_Record] + room, _Step),
+        ("finish_check", [_Record], _Step),
         ("read", [_Agreement] + lent + lent, _Slip),
         ("gather", [_Gathered] + lent, _Gathered),
         ("read_gathered", [_Agreement] + lent + [_Gathered], _Slip),

@@ -1,7 +1,7 @@
 """Tests of slipseal.py: annex A in one call and in pieces, the runs R4 to R7 of the requirements, slips written and read, slips
 that name something else than was agreed, slips that come in odd lengths, every refusal with its words, records that no call handed
 out, and what Python alone can get wrong (numbers too large, other kinds of bytes and of files, what is no date, a "no" taken for
-true).
+true). Checks in a session and of files are in test_checking.py.
 
     python3 -m unittest          in this folder
 """
@@ -59,6 +59,42 @@ def annex_a():
             tags = {64: bytes.fromhex(tag), 128: bytes.fromhex(g)}
         for m, tag in tags.items():
             yield Agreement(algorithm, padding, m), bytes.fromhex(keys), message, tag, calls
+
+
+# Other values in the record of a session that has the byte 61, and whether it then counts as closed.
+FORGED = (
+    ({}, False),
+    ({"phase": 0}, True),
+    ({"phase": 0, "part": 5}, True),
+    ({"phase": 3}, True),
+    ({"phase": 2**32 + 1}, True),
+    ({"part": 1}, True),
+    ({"phase": 2}, True),
+    ({"phase": 2, "part": 8}, True),
+    ({"total": 9}, True),
+    ({"phase": 2, "part": 1, "total": 129}, True),
+    ({"algorithm": 9}, True),
+    ({"algorithm": 257}, True),
+    ({"algorithm": 3}, False),
+    ({"padding": 4}, True),
+    ({"m": 129}, True),
+    ({"padding": 3}, True),
+    ({"padding": 3, "declared": 8}, False),
+    ({"padding": 3, "declared": 8388609}, True),
+    ({"declared": 2**64 - 1}, False),
+    ({"total": 2**63}, True),
+    ({"total": 8388608}, False),
+    ({"chain": (1,) * 16}, False),
+    ({"held": (97, 1)}, True),
+    ({"held": (98,)}, False),
+    ({"expected": (0x77,) * 16}, False),
+    ({"purpose": 2}, True),
+    ({"purpose": 255}, True),
+    ({"purpose": 256}, True),
+    ({"purpose": 2**32}, True),
+    ({"purpose": 2**32 + 1}, True),
+    ({"purpose": 2**64 - 1}, True),
+)
 
 
 def forged(**fields):
@@ -202,41 +238,16 @@ class Sessions(Case):
         self.assertEqual(session.finish(), make(Agreement(4, 1, 64), KEYS, MESSAGE[:17], 129))
 
     def test_a_finish_closes(self):
-        session = Session(Agreement(1, 1, 64), KEY)
-        self.assertFalse(session.closed)
-        session.finish()
-        self.assertTrue(session.closed)
-        self.assertEqual(bytes(session._record), bytes(120))
-        self.refused(11, session.piece, b"")
-        self.refused(11, session.finish)
+        for session in (Session(Agreement(1, 1, 64), KEY), forged(expected=(0x77,) * 16)):
+            self.assertFalse(session.closed)
+            session.finish()
+            self.assertTrue(session.closed)
+            self.assertEqual(bytes(session._record), bytes(144))
+            self.refused(11, session.piece, b"")
+            self.refused(11, session.finish)
 
     def test_forged_records(self):
-        for fields, closed in (
-            ({}, False),
-            ({"phase": 0}, True),
-            ({"phase": 0, "part": 5}, True),
-            ({"phase": 3}, True),
-            ({"phase": 2**32 + 1}, True),
-            ({"part": 1}, True),
-            ({"phase": 2}, True),
-            ({"phase": 2, "part": 8}, True),
-            ({"total": 9}, True),
-            ({"phase": 2, "part": 1, "total": 129}, True),
-            ({"algorithm": 9}, True),
-            ({"algorithm": 257}, True),
-            ({"algorithm": 3}, False),
-            ({"padding": 4}, True),
-            ({"m": 129}, True),
-            ({"padding": 3}, True),
-            ({"padding": 3, "declared": 8}, False),
-            ({"padding": 3, "declared": 8388609}, True),
-            ({"declared": 2**64 - 1}, False),
-            ({"total": 2**63}, True),
-            ({"total": 8388608}, False),
-            ({"chain": (1,) * 16}, False),
-            ({"held": (97, 1)}, True),
-            ({"held": (98,)}, False),
-        ):
+        for fields, closed in FORGED:
             session = forged(**fields)
             before = bytes(session._record)
             with self.subTest(**fields):
@@ -251,7 +262,7 @@ class Sessions(Case):
 
     def test_a_refusal_hands_back_the_very_record(self):
         """Every refusal but a start's, with whatever stands in what is not read."""
-        odd = {"declared": 2**64 - 1, "keys": tuple(KEY) + (0xC3,) * 16, "chain": (0x5A,) * 16}
+        odd = {"declared": 2**64 - 1, "keys": tuple(KEY) + (0xC3,) * 16, "chain": (0x5A,) * 16, "expected": (0x77,) * 16}
         far = {"algorithm": 2**64 - 1, "padding": 2**64 - 1, "m": 2**64 - 1}
         for number, fields, piece in (
             (7, {}, (b"ab", 8)),
@@ -270,7 +281,7 @@ class Sessions(Case):
 
     def test_the_record_holds_the_agreement(self):
         record = Session(Agreement(1, 2, 64), KEY)._record
-        self.assertEqual(bytes(record)[16:40], bytes.fromhex("01" + "00" * 7 + "02" + "00" * 7 + "40" + "00" * 7))
+        self.assertEqual(bytes(record)[24:48], bytes.fromhex("01" + "00" * 7 + "02" + "00" * 7 + "40" + "00" * 7))
 
 
 class Slips(Case):

@@ -23,6 +23,8 @@
 #[cfg(not(all(target_arch = "x86_64", target_os = "linux", target_pointer_width = "64")))]
 compile_error!("slipseal is built for x86-64 Linux only");
 
+mod certificate;
+mod checking;
 #[cfg(test)]
 mod forged;
 #[doc(hidden)]
@@ -32,6 +34,8 @@ mod refusal;
 mod session;
 mod slip;
 
+pub use certificate::{check_file, check_reader};
+pub use checking::{CheckingSession, RefusedCheck};
 pub use reader::SlipReader;
 pub use refusal::Refusal;
 pub use session::{RefusedFinish, Session};
@@ -71,21 +75,32 @@ pub struct Made<'a> {
 }
 
 /// What a check answers. It is no `Result`, so that a "no" cannot be taken for success by `is_ok()` or `?`.
+///
+/// With a refusal comes an `R`: the [`Refusal`], or at the end of a session a [`RefusedCheck`], which has the session too.
 #[must_use]
 #[derive(Clone, Copy, Debug, PartialEq, Eq)]
-pub enum Checked {
+pub enum Checked<R = Refusal> {
     /// The tag is the message's.
     Yes { calls: u64 },
     /// It is another one.
     No { calls: u64 },
     /// The check was not made.
-    Refused(Refusal),
+    Refused(R),
 }
 
-impl Checked {
+impl<R> Checked<R> {
+    /// What an answer of the library says.
+    fn of(answer: raw::Answer, refused: impl FnOnce(Refusal) -> R) -> Checked<R> {
+        match Refusal::of(answer.number) {
+            Err(refusal) => Checked::Refused(refused(refusal)),
+            Ok(()) if answer.yes == 1 => Checked::Yes { calls: answer.calls },
+            Ok(()) => Checked::No { calls: answer.calls },
+        }
+    }
+
     /// Whether the tag is the message's. False for a refusal.
     #[must_use]
-    pub fn is_yes(self) -> bool {
+    pub fn is_yes(&self) -> bool {
         matches!(self, Checked::Yes { .. })
     }
 }
@@ -127,10 +142,5 @@ pub fn make<'a>(
 /// assert_eq!(check(agreement, &[0; 16], b"abc", 24, &[0, 0]), Checked::No { calls: 1 });
 /// ```
 pub fn check(agreement: Agreement, keys: &[u8], message: &[u8], bits: usize, tag: &[u8]) -> Checked {
-    let answer = raw::check(agreement, keys, message, bits, tag);
-    match Refusal::of(answer.number) {
-        Err(refusal) => Checked::Refused(refusal),
-        Ok(()) if answer.yes == 1 => Checked::Yes { calls: answer.calls },
-        Ok(()) => Checked::No { calls: answer.calls },
-    }
+    Checked::of(raw::check(agreement, keys, message, bits, tag), |refusal| refusal)
 }

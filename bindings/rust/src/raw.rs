@@ -17,12 +17,14 @@ pub struct Answer {
 pub struct Record {
     pub phase: u64,
     pub part: u64,
+    pub purpose: u64,
     pub agreement: Agreement,
     pub declared: u64,
     pub total: u64,
     pub keys: [u8; 32],
     pub chain: [u8; 16],
     pub held: [u8; 16],
+    pub expected: [u8; 16],
 }
 
 #[repr(C)]
@@ -85,9 +87,20 @@ extern "C" {
 
     fn slipseal_start(agreement: Agreement, keys: *const u8, keys_len: usize, declared: usize) -> Step;
 
+    fn slipseal_start_check(
+        agreement: Agreement,
+        keys: *const u8,
+        keys_len: usize,
+        declared: usize,
+        tag: *const u8,
+        tag_len: usize,
+    ) -> Step;
+
     fn slipseal_piece(session: Record, bytes: *const u8, bytes_len: usize, bits: usize) -> Step;
 
     fn slipseal_finish(session: Record, tag: *mut u8, tag_len: usize) -> Step;
+
+    fn slipseal_finish_check(session: Record) -> Step;
 
     fn slipseal_read(
         agreement: Agreement,
@@ -138,6 +151,12 @@ pub fn start(agreement: Agreement, keys: &[u8], declared: usize) -> Step {
     unsafe { slipseal_start(agreement, keys.as_ptr(), keys.len(), declared) }
 }
 
+pub fn start_check(agreement: Agreement, keys: &[u8], declared: usize, tag: &[u8]) -> Step {
+    let (k, k_len, t, t_len) = (keys.as_ptr(), keys.len(), tag.as_ptr(), tag.len());
+    // SAFETY: each pointer comes from a slice and goes with its length.
+    unsafe { slipseal_start_check(agreement, k, k_len, declared, t, t_len) }
+}
+
 pub fn piece(record: Record, bytes: &[u8], bits: usize) -> Step {
     // SAFETY: the pointer comes from a slice and goes with its length; any record is answered.
     unsafe { slipseal_piece(record, bytes.as_ptr(), bytes.len(), bits) }
@@ -146,6 +165,11 @@ pub fn piece(record: Record, bytes: &[u8], bits: usize) -> Step {
 pub fn finish(record: Record, room: &mut [u8]) -> Step {
     // SAFETY: the pointer comes from a slice lent to this call alone and goes with its length; any record is answered.
     unsafe { slipseal_finish(record, room.as_mut_ptr(), room.len()) }
+}
+
+pub fn finish_check(record: Record) -> Step {
+    // SAFETY: no pointer goes; any record is answered.
+    unsafe { slipseal_finish_check(record) }
 }
 
 pub fn read(agreement: Agreement, keys: &[u8], slip: &[u8]) -> Slip {

@@ -36,7 +36,7 @@ impl Refusal {
             8 => "the message has more than 8388608 bits",
             9 => "the message is too short for the algorithm",
             10 => "the tag or the room for it has the wrong number of bytes",
-            11 => "the session is closed or its last piece ended within a byte",
+            11 => "the session is closed or for the other purpose, or its last piece ended within a byte",
             12 => "the message is not as long as was declared",
             20 => "the slip is cut short",
             21 => "a field is missing or out of order",

@@ -1,12 +1,13 @@
 //! A session: the message comes in pieces, cut anyhow, and the tag is that of the whole. A good finish uses the session up; a
-//! refusal leaves it as it was.
+//! refusal leaves it as it was. A session that checks a tag is in src/checking.rs.
 
 use std::error::Error;
 use std::fmt;
 
 use crate::{raw, Agreement, Made, Refusal};
 
-/// An open session. It holds the keys.
+/// An open session that makes a tag. It holds the keys. Where a tag came first and is to be checked, [`Session::check`] starts a
+/// [`CheckingSession`](crate::CheckingSession).
 ///
 /// ```
 /// use slipseal::{Agreement, Session};
@@ -52,9 +53,7 @@ impl Session {
     ///
     /// The first that applies of 11 (bits after a part byte), 7, 8, 12. The session is then as before.
     pub fn piece(&mut self, bytes: &[u8], bits: usize) -> Result<(), Refusal> {
-        let step = raw::piece(self.record, bytes, bits);
-        self.record = step.session;
-        Refusal::of(step.answer.number)
+        feed(&mut self.record, bytes, bits)
     }
 
     /// Ends the session and makes the tag in the front of `room`; what stands behind it stays.
@@ -73,13 +72,24 @@ impl Session {
     }
 }
 
-/// Shows the agreement and the bits so far; keys and state stay hidden.
+/// Gives a record of either purpose the next bits.
+pub(crate) fn feed(record: &mut raw::Record, bytes: &[u8], bits: usize) -> Result<(), Refusal> {
+    let step = raw::piece(*record, bytes, bits);
+    *record = step.session;
+    Refusal::of(step.answer.number)
+}
+
+/// Shows the agreement and the bits so far; keys, state and expected tag stay hidden.
+pub(crate) fn show(name: &str, record: &raw::Record, f: &mut fmt::Formatter<'_>) -> fmt::Result {
+    f.debug_struct(name)
+        .field("agreement", &record.agreement)
+        .field("total", &record.total)
+        .finish_non_exhaustive()
+}
+
 impl fmt::Debug for Session {
     fn fmt(&self, f: &mut fmt::Formatter<'_>) -> fmt::Result {
-        f.debug_struct("Session")
-            .field("agreement", &self.record.agreement)
-            .field("total", &self.record.total)
-            .finish_non_exhaustive()
+        show("Session", &self.record, f)
     }
 }
 

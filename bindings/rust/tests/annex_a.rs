@@ -1,5 +1,5 @@
-//! All of annex A: each printed tag in one call, checked, and in sessions cut at every byte; each printed G as a tag of 128 bits.
-//! Algorithm 7 prints 64 bits, which are refused with 3, so 63 of them are compared.
+//! All of annex A: each printed tag made and checked, in one call and in sessions cut at every byte; each printed G as a tag of 128
+//! bits. Algorithm 7 prints 64 bits, which are refused with 3, so 63 of them are compared.
 
 mod common;
 
@@ -67,6 +67,40 @@ fn sessions_cut_at_every_byte() {
             let mut room = [0; 16];
             let made = session.finish(&mut room).unwrap();
             assert_eq!((made.tag, made.calls), (&tag[..], calls), "{agreement:?} byte by byte");
+        }
+    }
+}
+
+#[test]
+fn checks_in_sessions_cut_at_every_byte() {
+    for v in annex_a() {
+        let bits = 8 * v.message.len();
+        let calls = calls(v.algorithm, v.padding, bits);
+        for (agreement, tag) in tags(&v) {
+            let finished = |tag: &[u8], pieces: &mut dyn Iterator<Item = &[u8]>| {
+                let mut session = Session::check(agreement, &v.keys, bits, tag).unwrap();
+                pieces.for_each(|piece| session.piece(piece, 8 * piece.len()).unwrap());
+                session.finish()
+            };
+            for cut in 0..=v.message.len() {
+                let (front, back) = v.message.split_at(cut);
+                let checked = finished(&tag, &mut [front, back].into_iter());
+                assert!(
+                    matches!(checked, Checked::Yes { calls: n } if n == calls),
+                    "{agreement:?} cut at {cut}"
+                );
+            }
+            let checked = finished(&tag, &mut v.message.chunks(1));
+            assert!(matches!(checked, Checked::Yes { calls: n } if n == calls), "{agreement:?} byte by byte");
+            for place in 0..8 * tag.len() {
+                let mut other = tag.clone();
+                other[place / 8] ^= 0x80 >> (place % 8);
+                let checked = finished(&other, &mut v.message.chunks(1));
+                assert!(
+                    matches!(checked, Checked::No { calls: n } if n == calls),
+                    "{agreement:?} bit {place}"
+                );
+            }
         }
     }
 }

@@ -6,7 +6,7 @@ mod common;
 use std::io::{self, Error, ErrorKind, Read};
 use std::iter;
 
-use common::{agreed, first, key, keys, slip, AGREED, GOOD, R6};
+use common::{agreed, byte_by_byte, first, interrupted, key, keys, slip, Scanner, AGREED, GOOD, R6};
 use slipseal::raw::{self, Gathered};
 use slipseal::{read_slip, write_slip, Agreement, Contents, SlipReader};
 
@@ -190,25 +190,6 @@ fn forged_records() {
 }
 
 // ---- readers
-
-/// Gives one of these at each read, then the end of input; no bytes are the end of input too.
-struct Scanner<I>(I);
-
-impl<I: Iterator<Item = io::Result<Vec<u8>>>> Read for Scanner<I> {
-    fn read(&mut self, buffer: &mut [u8]) -> io::Result<usize> {
-        let bytes = self.0.next().unwrap_or(Ok(Vec::new()))?;
-        buffer[..bytes.len()].copy_from_slice(&bytes);
-        Ok(bytes.len())
-    }
-}
-
-fn byte_by_byte(bytes: &[u8]) -> impl Iterator<Item = io::Result<Vec<u8>>> + '_ {
-    bytes.iter().map(|byte| Ok(vec![*byte]))
-}
-
-fn interrupted() -> io::Result<Vec<u8>> {
-    Err(ErrorKind::Interrupted.into())
-}
 
 #[test]
 fn readers_that_deliver_oddly() {

@@ -12,7 +12,7 @@ use native.Mathlib.Omega.{arith}
 use borrow.Author.Tests.{ne-eqb}
 use lib.ListN.{List·getD-eq-default, length, take, drop, getD, length-take}
 use lib.Seq.{getD-take}
-use Rattle.bits.specs.Choice.{pick, Fault, _given_, firstOf}
+use Rattle.bits.specs.Choice.{pick, _given_, firstOf}
 use Rattle.bits.specs.Str.{bytesBits, zeros, sameB}
 use Rattle.block.specs.Block.{storage, front, filledBlock}
 use Rattle.bits.proofs.Choice.{miss}

@@ -12,7 +12,7 @@ use borrow.Author.Tests.{eqb-true, eqb-false}
 use lib.Dec.{eqb}
 use lib.ListN.{length}
 use Rattle.bits.specs.Choice.{pick, _given_, firstOf}
-use Rattle.bits.specs.Str.{Bits, sameBytes}
+use Rattle.bits.specs.Str.{Bits}
 use Rattle.bits.proofs.Faults.{Clear, passed, done}
 use Rattle.bits.proofs.Same.{sameBytes-true, sameBytes-eq}
 use Rattle.block.specs.Block.{front}
@@ -20,7 +20,7 @@ use Rattle.keys.specs.Given.{keysOf}
 use Rattle.settings.specs.Answers.{numberOf}
 use Rattle.settings.specs.declared.Agreement.{Agreement}
 use Rattle.settings.specs.declared.Outcome.{Outcome}
-use Rattle.settings.specs.declared.Outcome.the-variants.{Yes, No, Refused}
+use Rattle.settings.specs.declared.Outcome.the-variants.{Yes, No}
 use Rattle.settings.proofs.Numbers.{Unrefused}
 use Rattle.message.specs.Faults.{tagLengthWrong}
 use Rattle.tag.specs.OneCall.{oneCallFaults, checkedBy, checkOf}
@@ -33,7 +33,7 @@ use Rattle.session.specs.Calls.{startFaults, declaredAt, startCheckOf, e
 use Rattle.session.proofs.Open.{ended}
 use Rattle.session.proofs.Purposes.{aimed-closed, aimed-end}
 use Rattle.session.proofs.Stood.{stood}
-use Rattle.session.proofs.Joined.{Act, Running, Begun, to-check, started, record-after, message, checked, finish-check-faults, finish-check-sound, finish-check-runs, declared-met, check-stood, start-check-clear, expected-tag, after-stood, joined-check}
+use Rattle.session.proofs.Joined.{Act, Running, Begun, to-check, record-after, message, checked, finish-check-faults, finish-check-sound, finish-check-runs, declared-met, check-stood, start-check-clear, expected-tag, after-stood, joined-check}
 use Rattle.session.proofs.AsOneCall.{Holds, lastTwo, end-last, one-call-last, never-nine, one-never-nine}
 
 -- the faults of its finish, its purpose being to check

@@ -24,7 +24,7 @@ use Rattle.session.specs.declared.Session.{Session}
 use Rattle.session.specs.declared.Step.{Step}
 use Rattle.session.specs.Record.{cleared, stateIn, aimed, isCheck, closedFaults, countsClosed}
 use Rattle.session.specs.Calls.{pieceFaults, fedOf, pieceOf, fallsShort, endFaults, finishFaults, finishCheckFaults, tagIn, callsIn, finishOf, judgedOf, finishCheckOf}
-use Rattle.session.proofs.Purposes.{aimed-fed, aimed-tag, aimed-calls, aimed-piece, aimed-end}
+use Rattle.session.proofs.Purposes.{aimed-fed, aimed-piece, aimed-end}
 
 module _ (s : Session) where
   -- closed or not, 11 is the first

@@ -1,22 +1,19 @@
 -- What the purpose of a record and its expected tag have no part in: whether it counts as closed, what a piece does to it, its tag and its
 -- calls, and the faults of its end but for the purpose itself. Each is the same for the record of any other purpose (`aimed`).
 -- Assumes nothing.
-use mathlib.Core.Path.{_≡_, refl, sym, ap, _∙_}
+use mathlib.Core.Path.{_≡_, refl, _∙_}
 use mathlib.Core.Bool.{Bool}
 use mathlib.Core.List.{List, _++_}
 use Prim.Native.Nat.{ℕ, _≤_}
 use native.Mathlib.Omega.{arith}
 use lib.ListN.{length, take, replicate}
 use lib.Seq.{take-all, take-take, take-append-le}
-use Rattle.bits.specs.Choice.{pick, Fault, firstOf}
 use Rattle.bits.specs.Str.{Bits}
 use Rattle.block.specs.Block.{front}
-use Rattle.mac.specs.Tag.{bitsOf}
 use Rattle.session.specs.declared.Purpose.{Purpose}
 use Rattle.session.specs.declared.Session.{Session}
-use Rattle.session.specs.declared.Step.{Step}
 use Rattle.session.specs.Record.{stateIn, standing, aimed, closedFaults, countsClosed}
-use Rattle.session.specs.Calls.{fedOf, pieceFaults, pieceOf, endFaults, tagIn, callsIn}
+use Rattle.session.specs.Calls.{fedOf, pieceFaults, endFaults, tagIn, callsIn}
 
 module _ (p : Purpose) (e : List ℕ) (s : Session) where
   pub aimed-closed : countsClosed (aimed p e s) ≡ countsClosed s

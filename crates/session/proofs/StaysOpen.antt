@@ -20,7 +20,7 @@ use Rattle.mac.proofs.TagBytes.{length-bitsOf}
 use Rattle.cipher.specs.Cipher.{Cipher}
 use Rattle.cipher.specs.Ciphers.{cipherAt}
 use Rattle.cipher.proofs.Laws.{lawful-at, width-at}
-use Rattle.keys.specs.Given.{keysOf, givenOf}
+use Rattle.keys.specs.Given.{givenOf}
 use Rattle.keys.specs.Faults.{keyBytes, keyBytesWrong}
 use Rattle.keys.proofs.GivenKeys.{given-keys}
 use Rattle.settings.specs.Faults.{settingsFaults, settingsRefusal}

@@ -10,7 +10,6 @@ use mathlib.Core.Bool.{Bool, true, false}
 use mathlib.Core.List.{List}
 use Prim.Native.Nat.{ℕ, _<_}
 use native.Mathlib.Omega.{arith}
-use lib.ListN.{length}
 use contract.Lifetimes.{Lfts}
 use borrow.Fn.Kinds.{Dens}
 use Rattle.bits.specs.Choice.{pick}
@@ -21,7 +20,6 @@ use Rattle.mac.specs.Session.{joined}
 use Rattle.keys.specs.Given.{keysOf}
 use Rattle.settings.specs.Answers.{numberOf, reportedCalls}
 use Rattle.settings.specs.declared.Agreement.{Agreement}
-use Rattle.settings.specs.declared.Outcome as settings
 use Rattle.settings.specs.declared.Outcome.the-variants.{Yes, No}
 use Rattle.settings.proofs.Numbers.{Unrefused}
 use Rattle.tag.specs.OneCall.{checkOf}
@@ -30,7 +28,7 @@ use Rattle.session.specs.declared.Purpose.the-variants as purpose
 use Rattle.session.specs.declared.Session as session
 use Rattle.session.specs.declared.Step as session-step
 use Rattle.session.specs.Record.{cleared}
-use Rattle.session.specs.Calls.{startCheckOf, finishOf, finishCheckOf}
+use Rattle.session.specs.Calls.{startCheckOf, finishCheckOf}
 use Rattle.session.proofs.Joined.{Act, handed, gathered, Running, joined-check}
 use Rattle.session.proofs.StaysOpen.{start-check-opens}
 use Rattle.session.proofs.AsOneCall.{Holds}

@@ -1,8 +1,10 @@
-// The functions for C, each called as C calls it: a tag is made and checked; a session is started, fed, tried too early and with
-// too little room, and finished; a struct whose phase is none of the three comes back as it came; a slip is read under what was
-// agreed, under another key and under another m; the same slip is gathered from two reads, and read after the first, after both and
-// with one byte more; two records with junk in them, one with a forged count, are read and gathered on; the same slip is written,
-// and refused a room that is a byte too small. Every answer is known beforehand (docs/ARCHITECTURE.md, "Tests").
+// The functions for C, each called as C calls it: a tag is made and checked; a session is started, fed, tried too early, with too
+// little room and with the finish of a check, and finished; a struct whose phase is none of the three comes back as it came; a tag
+// is checked in a session, tried with the finish for making, and gets yes, and no where a spare bit is set; a struct whose purpose
+// is neither of the two comes back as it came; a slip is read under what was agreed, under another key and under another m; the
+// same slip is gathered from two reads, and read after the first, after both and with one byte more; two records with junk in
+// them, one with a forged count, are read and gathered on; the same slip is written, and refused a room that is a byte too small.
+// Every answer is known beforehand (docs/ARCHITECTURE.md, "Tests").
 const KEYS: [u8; 32] = *b"\
     \x01\x23\x45\x67\x89\xab\xcd\xef\xfe\xdc\xba\x98\x76\x54\x32\x10\
     \x41\x49\xd2\xad\xed\x94\x56\x68\x1e\xc8\xb5\x11\xd9\xe7\xee\x04";
@@ -24,6 +26,7 @@ fn main() {
     let keys = KEYS;
     one_call(&keys[0..16]);
     in_session(&keys);
+    check_in_session(&keys[0..16]);
     let slip = SLIP;
     read(64, &keys[0..16], &slip);
     read(64, &keys[16..], &slip);
@@ -90,7 +93,7 @@ fn one_call(key: &[u8]) {
     );
 }
 
-// The answer and the struct's phase, part and total; and the struct.
+// The answer and the struct's phase, part, purpose and total; and the struct.
 fn handed(what: &[u8], step: slipseal::Step) -> slipseal::Session {
     let answer = step.answer;
     tell(what, answer);
@@ -98,6 +101,7 @@ fn handed(what: &[u8], step: slipseal::Step) -> slipseal::Session {
     print(b" ");
     number(after.phase);
     number(after.part);
+    number(after.purpose);
     number(after.total);
     print(b"\n");
     after
@@ -136,6 +140,7 @@ fn in_session(keys: &[u8]) {
     let early = finish(b"finish, one block:", some);
     let all = handed(b"piece:", slipseal::slipseal_piece(early, &ones[0..1], 8));
     let short = finish_in_fifteen(all);
+    finish_check(short);
     let mut odd = short;
     odd.phase = 7;
     handed(
@@ -143,6 +148,47 @@ fn in_session(keys: &[u8]) {
         slipseal::slipseal_piece(odd, &ones[0..1], 8),
     );
     finish(b"finish:", short);
+}
+
+fn finish_check(s: slipseal::Session) {
+    handed(b"finish of a check:", slipseal::slipseal_finish_check(s));
+}
+
+fn expected(s: slipseal::Session) {
+    let tag = s.expected;
+    bytes(&tag);
+}
+
+// A check of this tag, of twelve bits, with one byte of the message and then two, and the tag in the struct.
+fn fed_check(key: &[u8], tag: &[u8]) -> slipseal::Session {
+    let agreed = settings::Agreement {
+        algorithm: 1,
+        padding: 1,
+        m: 12,
+    };
+    let begun = handed(
+        b"start of a check:",
+        slipseal::slipseal_start_check(agreed, key, 0, tag),
+    );
+    let some = handed(b"piece:", slipseal::slipseal_piece(begun, b"a", 8));
+    let all = handed(b"piece:", slipseal::slipseal_piece(some, b"bc", 16));
+    expected(all);
+    all
+}
+
+// The tag of abc is 905, then four spare bits.
+fn check_in_session(key: &[u8]) {
+    let right = fed_check(key, b"\x90\x50");
+    let tried = finish(b"finish:", right);
+    let mut odd = tried;
+    odd.purpose = 2;
+    handed(b"an odd purpose:", slipseal::slipseal_piece(odd, b"d", 8));
+    finish(b"an odd purpose:", odd);
+    finish_check(odd);
+    finish_check(tried);
+    let wrong = fed_check(key, b"\x90\x51");
+    finish_check(wrong);
+    fed_check(key, b"\x90");
 }
 
 // The slip is sealed under algorithm 5, padding 4 and 64 bits.

@@ -1,4 +1,5 @@
 // Commands in one call, and what the library answers, printed.
+use crate::bytewise;
 use crate::halves;
 use crate::words;
 use words::print;
@@ -39,6 +40,10 @@ fn answer(kind: usize, line: &[u8], keys: &[u8], message: &[u8]) {
             number,
             words::first(&tag, tag_bytes),
         );
+        return;
+    }
+    if kind == crate::BYTEWISE {
+        bytewise::run(line, agreement, keys, number, &mut tag, tag_bytes);
         return;
     }
     make(agreement, keys, message, number, words::number(line, 7));

@@ -10,6 +10,13 @@
 //     forge PHASE PART A P M DECLARED TOTAL K K1 CHAIN HELD   forged: the session is now this record
 //     same                                whether the command on the session before this one left every field of it: same or changed
 //     halves A P M KEYS MESSAGE CALLS TAG   G of N cuts: of the N ways to cut the message in two at a byte, G end with the tag and the calls
+//     start_check A P M KEYS DECLARED TAG   accepted or refused N
+//     finish_check                        as check
+//     aim PURPOSE EXPECTED                aimed: the session's record is now for this purpose and expects these bytes, at most 16,
+//                                         zeros after them; a forged record is for making and expects zeros
+//     bytewise A P M KEYS MESSAGE BITS TAG   as check, by a session that is fed byte by byte, the last one with the bits left; then
+//                                         G of N turned: no, where of the N tags with one bit turned G get no with the same calls;
+//                                         then message turned, and the answer for the message with its first bit turned
 //     slip A P M KEYS SLIP                accepted DATE lot LOT at PLACE length BYTES amount AMOUNT calls CALLS, LOT being the part that
 //                                         comes back; or refused N, and "with values" where another field or the part is not empty
 //     changed A P M KEYS SLIP             the slip with each byte changed to every other value: how many are accepted, and how many get
@@ -25,9 +32,11 @@
 //                                         where length or calls are not 0, and whether the room is untouched
 //
 // Numbers are decimal and below 2^64. Bytes are hex digits, at most 4096 bytes, and - is no bytes. ROOM is a number of bytes up to
-// 32, of write up to 96, each EE before the call. The commands from start to same act on one session, closed and zero at the text's
-// first line, and print its phase after their answer; PHASE is 0 closed, 1 at a byte edge, 2 after a part byte of PART bits. A line
-// whose first word is # is printed alone. No other line is looked for: tests/make-runs stores none that the reference cannot read.
+// 32, of write up to 96, each EE before the call. The commands from start to same, start_check, finish_check and aim act on one
+// session, closed and zero at the text's first line, and print its phase after their answer; PHASE is 0 closed, 1 at a byte edge, 2
+// after a part byte of PART bits, and PURPOSE 0 making, 1 checking. A line whose first word is # is printed alone. No other line is
+// looked for: tests/make-runs stores none that the reference cannot read.
+mod bytewise;
 mod calls;
 mod gathered;
 mod halves;
@@ -39,8 +48,9 @@ mod writes;
 use words::print;
 
 // The commands, in the order of their numbers; 0 is a remark.
-const NAMES: [u8; 106] =
-    *b"# make check halves slip changed prefixes firsts trickled record write start piece zeros finish forge same";
+const NAMES: [u8; 144] =
+    *b"# make check halves slip changed prefixes firsts trickled record write start piece zeros finish forge same start_check \
+finish_check aim bytewise";
 
 pub(crate) const CHECK: usize = 2;
 
@@ -67,6 +77,14 @@ pub(crate) const ZEROS: usize = 13;
 pub(crate) const FINISH: usize = 14;
 
 pub(crate) const SAME: usize = 16;
+
+pub(crate) const START_CHECK: usize = 17;
+
+pub(crate) const FINISH_CHECK: usize = 18;
+
+pub(crate) const AIM: usize = 19;
+
+pub(crate) const BYTEWISE: usize = 20;
 
 fn main() {
     let count = os::arg_count();
@@ -131,6 +149,10 @@ fn answered(kind: usize, line: &[u8], state: sessions::State) -> sessions::State
     }
     if kind < START {
         writes::command(line);
+        return state;
+    }
+    if kind == BYTEWISE {
+        calls::command(kind, line);
         return state;
     }
     sessions::command(kind, line, state)

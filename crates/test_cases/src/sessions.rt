@@ -71,6 +71,16 @@ fn next(kind: usize, line: &[u8], before: session::Session) -> session::Session 
     if kind == crate::FINISH {
         return finish(words::number(line, 1), before);
     }
+    if kind == crate::START_CHECK {
+        return start_check(line);
+    }
+    if kind == crate::FINISH_CHECK {
+        return told(before.finish_check());
+    }
+    if kind == crate::AIM {
+        print(b"aimed");
+        return aimed(line, before);
+    }
     print(b"forged");
     forged(line)
 }
@@ -89,6 +99,19 @@ fn start(line: &[u8]) -> session::Session {
         words::agreement(line),
         words::first(&keys, key_bytes),
         words::number(line, 5),
+    ))
+}
+
+fn start_check(line: &[u8]) -> session::Session {
+    let mut keys = io::buffer();
+    let key_bytes = words::bytes(line, 4, &mut keys);
+    let mut tag = io::buffer();
+    let tag_bytes = words::bytes(line, 6, &mut tag);
+    told(session::start_check(
+        words::agreement(line),
+        words::first(&keys, key_bytes),
+        words::number(line, 5),
+        words::first(&tag, tag_bytes),
     ))
 }
 
@@ -120,7 +143,27 @@ fn finish(size: usize, before: session::Session) -> session::Session {
     step.session
 }
 
-// A record of any content.
+// The same record for a purpose, with a tag expected.
+fn aimed(line: &[u8], before: session::Session) -> session::Session {
+    let phase = before.phase;
+    let purpose = purpose_of(words::number(line, 1));
+    let agreement = before.agreement;
+    let keys = before.keys;
+    let hold = before.hold;
+    let expected = words::block(line, 2);
+    session::Session {
+        phase,
+        purpose,
+        agreement,
+        declared: before.declared,
+        total: before.total,
+        keys,
+        hold,
+        expected,
+    }
+}
+
+// A record of any content, for making.
 fn forged(line: &[u8]) -> session::Session {
     let phase = phase_of(words::number(line, 1), words::number(line, 2));
     let agreement = settings::Agreement {
@@ -134,11 +177,13 @@ fn forged(line: &[u8]) -> session::Session {
     let hold = chain::Hold { value, held };
     session::Session {
         phase,
+        purpose: session::Purpose::Making,
         agreement,
         declared: words::number(line, 6),
         total: words::number(line, 7),
         keys,
         hold,
+        expected: [0u8; 16],
     }
 }
 
@@ -168,14 +213,31 @@ fn part_of(phase: session::Phase) -> usize {
     }
 }
 
+fn purpose_of(kind: usize) -> session::Purpose {
+    if kind == 0 {
+        return session::Purpose::Making;
+    }
+    session::Purpose::Checking
+}
+
+fn number_of(purpose: session::Purpose) -> usize {
+    match purpose {
+        session::Purpose::Making => 0,
+        session::Purpose::Checking => 1,
+    }
+}
+
 // Zero where two records agree in every number.
 fn differing(a: session::Session, b: session::Session) -> usize {
     let phase_a = a.phase;
     let phase_b = b.phase;
+    let purpose_a = a.purpose;
+    let purpose_b = b.purpose;
     let agreement_a = a.agreement;
     let agreement_b = b.agreement;
     kind_of(phase_a) ^ kind_of(phase_b)
         | part_of(phase_a) ^ part_of(phase_b)
+        | number_of(purpose_a) ^ number_of(purpose_b)
         | agreement_a.algorithm ^ agreement_b.algorithm
         | agreement_a.padding ^ agreement_b.padding
         | agreement_a.m ^ agreement_b.m
@@ -202,5 +264,10 @@ fn same(a: session::Session, b: session::Session) -> bool {
     }
     let held_a = hold_a.held;
     let held_b = hold_b.held;
-    block::equal(held_a, held_b)
+    if !block::equal(held_a, held_b) {
+        return false;
+    }
+    let expected_a = a.expected;
+    let expected_b = b.expected;
+    block::equal(expected_a, expected_b)
 }

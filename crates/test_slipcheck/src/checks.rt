@@ -38,9 +38,7 @@ fn row(at: usize)
     requires { ⌜ at ≤ 4096 ⌝ }
 {
     pairs::print_words(at, 5);
-    let mut room = io::buffer();
-    let n = os::arg(at, &mut room);
-    let typed = os::open_read(&room[..n]);
+    let typed = pairs::open_keys(at);
     tool::answer(typed, at + 1, 4);
     libc::close(typed);
 }

@@ -1,11 +1,15 @@
-// What slipcheck and slipprint answer, by the functions that they call themselves: with the arguments of this program, whose number
-// neither takes; then slipcheck on the stored keys and slips (checks.rt); then slipprint (pairs.rt).
+// What slipcheck, slipprint and certcheck answer, by the functions that they call themselves: with the arguments of this program, whose
+// number none takes; then slipcheck on the stored keys and slips (checks.rt); then certcheck on stored certificates (certificates.rt);
+// then slipprint (pairs.rt).
+mod certificates;
 mod checks;
 mod pairs;
 
 fn main() {
     tool::run();
     tool::run_print();
+    tool::run_certificate();
     checks::run();
+    certificates::run();
     pairs::run();
 }

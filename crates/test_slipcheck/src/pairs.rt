@@ -1,9 +1,9 @@
 // slipprint on words of this program's own arguments, then slipcheck on the file that it was to make, under the same agreement. After
-// the arguments that checks.rt takes, eight make a row: the file of the typed keys, and slipprint's seven words.
+// the arguments that checks.rt and certificates.rt take, eight make a row: the file of the typed keys, and slipprint's seven words.
 ghost use Prim.Native.Nat.{_≤_};
 ghost use Rattle.io.specs.Counts.{Counts};
 
-const FIRST_ROW: usize = 175;
+const FIRST_ROW: usize = 535;
 
 // What a slip's file can have, and one byte more.
 const MOST: usize = 76;
@@ -43,13 +43,11 @@ fn pair(at: usize)
     requires { ⌜ at ≤ 4096 ⌝ }
 {
     print_words(at, 8);
-    let mut room = io::buffer();
-    let n = os::arg(at, &mut room);
-    let typed = os::open_read(&room[..n]);
+    let typed = open_keys(at);
     tool::answer_print(typed, at + 1, 7);
     libc::close(typed);
     print(b"--\n");
-    let again = os::open_read(&room[..n]);
+    let again = open_keys(at);
     check_made(again, at);
     libc::close(again);
 }
@@ -61,6 +59,13 @@ fn check_made(typed: i32, at: usize)
     let mut name = io::buffer();
     let n = os::arg(at + 1, &mut name);
     tool::answer_named(typed, &name[..n], at + 5);
+}
+
+// The file of a row's typed keys, open.
+pub(crate) fn open_keys(at: usize) -> i32 {
+    let mut room = io::buffer();
+    let n = os::arg(at, &mut room);
+    os::open_read(&room[..n])
 }
 
 // A line with so many arguments from one on.

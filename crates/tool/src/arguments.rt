@@ -15,6 +15,47 @@ pub(crate) enum Agreed {
     Unread,
 }
 
+// What the first of a program's words ask for.
+pub(crate) enum Asked {
+    // There is one word alone.
+    One,
+    // There are more or fewer than the program takes.
+    Misuse,
+    // The first is the name of a file; so many bytes of it are in the room.
+    Named(usize),
+    // It cannot be had, for this reason of the system's.
+    Unnamed(i32),
+}
+
+// What is asked for where the words are so many arguments from this one on, and the program takes so many.
+pub(crate) fn words_ask(at: usize, count: usize, taken: usize, name: &mut [u8]) -> Asked {
+    if count == 1 {
+        return Asked::One;
+    }
+    if count != taken {
+        return Asked::Misuse;
+    }
+    if LAST < at {
+        return Asked::Misuse;
+    }
+    let n = os::arg(at, name);
+    let wrong = os::errno();
+    if wrong != 0 {
+        return Asked::Unnamed(wrong);
+    }
+    Asked::Named(n)
+}
+
+// The argument after the first one.
+pub(crate) fn second(at: usize) -> usize
+    ensures { λ r. ⌜ r ≤ 65537 ⌝ }
+{
+    if LAST < at {
+        return LAST + 1;
+    }
+    at + 1
+}
+
 // How many words came after the program's own name.
 pub(crate) fn count() -> usize {
     let count = os::arg_count();
@@ -38,6 +79,13 @@ pub(crate) fn asks_for_help(word: &[u8]) -> bool {
         return true;
     }
     check::same(word, b"--help")
+}
+
+// Whether an argument asks how the program is used.
+pub(crate) fn is_help(at: usize) -> bool {
+    let mut room = [0u8; 7];
+    let n = word(at, &mut room);
+    asks_for_help(first(&room, n))
 }
 
 // The agreement of the three arguments from this one on.

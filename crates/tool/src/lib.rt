@@ -1,6 +1,6 @@
-// All input and output of the programs slipcheck and slipprint (printing.rt). They tell everything on standard output, since a program
-// here has no exit status. slipcheck reads the keys from standard input and one slip from a file, which may be a pipe, and says in
-// words whether the slip is to be believed under what was agreed with its supplier:
+// All input and output of the programs slipcheck, slipprint (printing.rt) and certcheck (certificate.rt). They tell everything on
+// standard output, since a program here has no exit status. slipcheck reads the keys from standard input and one slip from a file,
+// which may be a pipe, and says in words whether the slip is to be believed under what was agreed with its supplier:
 //
 //     slipcheck FILE ALGORITHM PADDING M    accepted and what the slip says; or refused, the number and its meaning; or error and
 //                                           what is wrong
@@ -8,7 +8,8 @@
 //     slipcheck -h                          how it is used; also --help
 //
 // The arguments are looked at first, in their order, then the keys, then the file. Its own buffers, with those of the calls it makes on
-// the system, would stay far below 64 KiB even if they were all in use together (slipprint's stand in printing.rt):
+// the system, would stay far below 64 KiB even if they were all in use together (slipprint's stand in printing.rt, certcheck's in
+// certificate.rt):
 //
 //     4096   the file's name
 //     4096   its copy in os::open_read
@@ -24,6 +25,8 @@
 //    -----
 //    14096   bytes in all
 mod arguments;
+mod certificate;
+mod certificate_file;
 mod hex;
 mod new_file;
 mod numbers;
@@ -34,6 +37,9 @@ mod vectors;
 mod words;
 
 use arguments::Agreed;
+use arguments::Asked;
+pub use certificate::answer_certificate;
+pub use certificate::run_certificate;
 pub use printing::answer_print;
 pub use printing::run_print;
 use words::print;
@@ -44,26 +50,13 @@ pub fn run() {
 
 // What slipcheck says where its words are so many arguments from this one on, and the keys are typed into this open file.
 pub fn answer(typed: i32, at: usize, count: usize) {
-    if count == 1 {
-        answer_one(at);
-        return;
-    }
-    if count != 4 {
-        print_misuse();
-        return;
-    }
-    if arguments::LAST < at {
-        print_misuse();
-        return;
-    }
     let mut name = io::buffer();
-    let n = os::arg(at, &mut name);
-    let wrong = os::errno();
-    if wrong != 0 {
-        words::print_failure(b"the file cannot be opened", wrong);
-        return;
+    match arguments::words_ask(at, count, 4, &mut name) {
+        Asked::One => answer_one(at),
+        Asked::Misuse => print_misuse(),
+        Asked::Unnamed(reason) => words::print_failure(b"the file cannot be opened", reason),
+        Asked::Named(n) => answer_named(typed, first(&name, n), arguments::second(at)),
     }
-    answer_named(typed, &name[..n], at + 1);
 }
 
 fn print_usage() {

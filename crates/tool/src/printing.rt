@@ -29,6 +29,7 @@ use crate::numbers;
 use crate::typed_keys;
 use crate::words;
 use arguments::Agreed;
+use arguments::Asked;
 use words::print;
 
 pub fn run_print() {
@@ -37,26 +38,13 @@ pub fn run_print() {
 
 // What the program says where its words are so many arguments from this one on, and the keys are typed into this open file.
 pub fn answer_print(typed: i32, at: usize, count: usize) {
-    if count == 1 {
-        answer_one(at);
-        return;
-    }
-    if count != 7 {
-        print_misuse();
-        return;
-    }
-    if arguments::LAST < at {
-        print_misuse();
-        return;
-    }
     let mut name = io::buffer();
-    let n = os::arg(at, &mut name);
-    let wrong = os::errno();
-    if wrong != 0 {
-        words::print_failure(b"the file cannot be made", wrong);
-        return;
+    match arguments::words_ask(at, count, 7, &mut name) {
+        Asked::One => answer_one(at),
+        Asked::Misuse => print_misuse(),
+        Asked::Unnamed(reason) => words::print_failure(b"the file cannot be made", reason),
+        Asked::Named(n) => answer_six(typed, first(&name, n), arguments::second(at)),
     }
-    answer_six(typed, &name[..n], at + 1);
 }
 
 fn print_usage() {
@@ -74,9 +62,7 @@ fn print_misuse() {
 
 // A word alone may ask how the program is used.
 fn answer_one(at: usize) {
-    let mut room = [0u8; 7];
-    let n = arguments::word(at, &mut room);
-    if arguments::asks_for_help(first(&room, n)) {
+    if arguments::is_help(at) {
         print_usage();
         return;
     }

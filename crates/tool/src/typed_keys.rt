@@ -24,7 +24,7 @@ struct Turn {
 }
 
 // Puts the typed bytes into the room, as many as fit. A room of 33 bytes is enough: keys have 16 or 32 bytes, and for 33 the
-// library answers as it does for any longer keys, whether a slip is read or written.
+// library answers as it does for any longer keys, whether a slip is read or written or a certificate is checked.
 pub(crate) fn read(file: i32, room: &mut [u8]) -> Typed {
     let mut typed = Typed::Bytes(0);
     let mut more = true;
@@ -69,7 +69,8 @@ fn is_sound(typed: Typed) -> bool {
     }
 }
 
-fn after_all(text: &[u8], before: Typed, room: &mut [u8]) -> Typed {
+// What has been typed after these characters, and the bytes of it in the room.
+pub(crate) fn after_all(text: &[u8], before: Typed, room: &mut [u8]) -> Typed {
     let mut typed = before;
     let mut i = 0;
     while i < text.len() {

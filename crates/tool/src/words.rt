@@ -38,7 +38,7 @@ pub(crate) fn print_refusal(number: usize) {
     print(b"\n");
 }
 
-// A slip gets 1 to 6, 10 and 20 to 30; 7 to 9, 11 and 12 are other calls' answers.
+// A slip gets 1 to 6, 10 and 20 to 30, a certificate 1 to 6, 8 to 10 and 12; 7 and 11 are other calls' answers.
 fn print_meaning(number: usize) {
     if number < 7 {
         print_meaning_of_settings(number);
@@ -69,7 +69,9 @@ fn print_meaning_of_message(number: usize) {
         8 => print(b"the message has more than 8388608 bits"),
         9 => print(b"the message is too short for the algorithm"),
         10 => print(b"the tag or the room for it has the wrong number of bytes"),
-        11 => print(b"the session is closed or its last piece ended within a byte"),
+        11 => print(
+            b"the session is closed or for the other purpose, or its last piece ended within a byte",
+        ),
         12 => print(b"the message is not as long as was declared"),
         _ => print_no_meaning(),
     }

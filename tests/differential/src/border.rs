@@ -1,4 +1,4 @@
-//! The longest message, 8,388,608 bits, in one call and in a session of pieces, and one bit more.
+//! The longest message, 8,388,608 bits, in one call and in sessions of pieces, made and checked, and one bit more.
 //! The first case has its answers from the requirements (appendix, R7); the others are compared with the reference.
 
 use crate::draw::Settings;
@@ -33,14 +33,19 @@ pub fn known(r: &mut Random, run: &mut Run) {
             run.same(&(made, checked, room), &(refused, refused, [0; 16]), what);
         }
     }
-    let (mut record, _) = run.start(PLAIN, &keys, 0);
-    for _ in 0..16 {
-        record = run.piece(&record, &zeros[..MOST / 16], LIMIT / 16).0;
-    }
-    let (_, refused) = run.piece(&record, &zeros[..1], 1);
-    run.same(&refused, &Answer::refused(8), || "one bit more in a session".to_string());
-    let (_, made, room) = run.finish(&record, Room::new(r, 16));
+    let begun = [run.start(PLAIN, &keys, 0).0, run.start_check(PLAIN, &keys, 0, &tag).0];
+    let [maker, checker] = begun.map(|mut record| {
+        for _ in 0..16 {
+            record = run.piece(&record, &zeros[..MOST / 16], LIMIT / 16).0;
+        }
+        let (_, refused) = run.piece(&record, &zeros[..1], 1);
+        run.same(&refused, &Answer::refused(8), || "one bit more in a session".to_string());
+        record
+    });
+    let (_, made, room) = run.finish(&maker, Room::new(r, 16));
     run.same(&(made.calls, room), &(65_536, tag.to_vec()), || "8,388,608 zeros in pieces".to_string());
+    let (_, checked) = run.finish_check(&checker);
+    run.same(&checked, &made, || "8,388,608 zeros checked in pieces".to_string());
 }
 
 /// Any bits, under one algorithm and padding.
@@ -63,7 +68,7 @@ pub fn case(r: &mut Random, run: &mut Run, [algorithm, padding]: [u64; 2]) {
         run.check(s.agreement, &s.keys, &bytes[..size], LIMIT + 1, &tag);
     }
 
-    let (mut record, _) = run.start(s.agreement, &s.keys, LIMIT);
+    let (mut record, _) = run.start_check(s.agreement, &s.keys, LIMIT, &tag);
     let mut at = 0;
     while at < MOST {
         let count = (1 + r.below(100_000) as usize).min(MOST - at);
@@ -73,7 +78,14 @@ pub fn case(r: &mut Random, run: &mut Run, [algorithm, padding]: [u64; 2]) {
     }
     // The last bit comes too late: the piece before ended inside a byte.
     run.piece(&record, &bytes[..1], 1);
-    record = full(run, &s, &bytes[..MOST]);
+    run.finish(&record, Room::new(r, size));
+    run.finish_check(&record);
+    let (begun, _) = run.start_check(s.agreement, &s.keys, LIMIT, &tag);
+    record = full(run, &begun, &bytes[..MOST]);
+    let (_, answer) = run.finish_check(&record);
+    run.same(&answer, &made, || "the longest message checked in pieces".to_string());
+    let (begun, _) = run.start(s.agreement, &s.keys, LIMIT);
+    record = full(run, &begun, &bytes[..MOST]);
     let over = 1 + r.below(9);
     run.piece(&record, &bytes[..bytes_for(over) as usize], over);
     record = run.piece(&record, &[], 0).0;
@@ -81,10 +93,9 @@ pub fn case(r: &mut Random, run: &mut Run, [algorithm, padding]: [u64; 2]) {
     run.same(&(answer, room), &(made, tag), || "the longest message in pieces".to_string());
 }
 
-/// A session that holds the whole message, fed by two pieces.
-fn full(run: &mut Run, s: &Settings, bytes: &[u8]) -> Record {
-    let (record, _) = run.start(s.agreement, &s.keys, 8 * bytes.len() as u64);
+/// A begun session, fed the whole message by two pieces.
+fn full(run: &mut Run, begun: &Record, bytes: &[u8]) -> Record {
     let (one, two) = bytes.split_at(bytes.len() / 3);
-    let (record, _) = run.piece(&record, one, 8 * one.len() as u64);
+    let (record, _) = run.piece(begun, one, 8 * one.len() as u64);
     run.piece(&record, two, 8 * two.len() as u64).0
 }

@@ -34,7 +34,7 @@ pub fn case(r: &mut Random, run: &mut Run) {
 }
 
 /// A tag to be checked, made from the right one where there is one.
-fn offered(r: &mut Random, s: &Settings, bytes: &[u8], count: u64) -> Vec<u8> {
+pub fn offered(r: &mut Random, s: &Settings, bytes: &[u8], count: u64) -> Vec<u8> {
     let mut tag = vec![0; 16];
     r.fill(&mut tag);
     reference::make(s.agreement, &s.keys, bytes, count, &mut tag);
@@ -53,6 +53,6 @@ fn offered(r: &mut Random, s: &Settings, bytes: &[u8], count: u64) -> Vec<u8> {
     tag
 }
 
-fn turn(bytes: &mut [u8], bit: u64) {
+pub fn turn(bytes: &mut [u8], bit: u64) {
     bytes[bit as usize / 8] ^= 0x80 >> (bit % 8);
 }

@@ -1,4 +1,4 @@
-//! The library's nine functions, as the Rust binding calls them through C, answering in the reference's types. Nothing is judged
+//! The library's eleven functions, as the Rust binding calls them through C, answering in the reference's types. Nothing is judged
 //! here: what comes is handed on, and what comes back is handed back, field by field.
 
 use reference::gathered::Gathered;
@@ -16,16 +16,21 @@ fn agreed(a: Agreement) -> slipseal::Agreement {
     slipseal::Agreement { algorithm, padding, m }
 }
 
+/// The fields are all that the struct has: eight numbers and 80 bytes, with none between them.
+const _: () = assert!(size_of::<raw::Record>() == 8 * 8 + 80);
+
 fn inward(r: &Record) -> raw::Record {
-    let Record { phase, part, agreement, declared, total, keys, chain, held } = *r;
-    raw::Record { phase, part, agreement: agreed(agreement), declared, total, keys, chain, held }
+    let Record { phase, part, purpose, agreement, declared, total, keys, chain, held, expected } = *r;
+    let agreement = agreed(agreement);
+    raw::Record { phase, part, purpose, agreement, declared, total, keys, chain, held, expected }
 }
 
 fn step(out: raw::Step) -> (Record, Answer) {
-    let raw::Record { phase, part, agreement, declared, total, keys, chain, held } = out.session;
+    let raw::Record { phase, part, purpose, agreement, declared, total, keys, chain, held, expected } =
+        out.session;
     let slipseal::Agreement { algorithm, padding, m } = agreement;
     let agreement = Agreement { algorithm, padding, m };
-    let record = Record { phase, part, agreement, declared, total, keys, chain, held };
+    let record = Record { phase, part, purpose, agreement, declared, total, keys, chain, held, expected };
     (record, answer(out.answer))
 }
 
@@ -41,12 +46,20 @@ pub fn start(agreement: Agreement, keys: &[u8], declared: u64) -> (Record, Answe
     step(raw::start(agreed(agreement), keys, declared as usize))
 }
 
+pub fn start_check(agreement: Agreement, keys: &[u8], declared: u64, tag: &[u8]) -> (Record, Answer) {
+    step(raw::start_check(agreed(agreement), keys, declared as usize, tag))
+}
+
 pub fn piece(record: &Record, bytes: &[u8], bits: u64) -> (Record, Answer) {
     step(raw::piece(inward(record), bytes, bits as usize))
 }
 
 pub fn finish(record: &Record, room: &mut [u8]) -> (Record, Answer) {
     step(raw::finish(inward(record), room))
+}
+
+pub fn finish_check(record: &Record) -> (Record, Answer) {
+    step(raw::finish_check(inward(record)))
 }
 
 fn told(read: raw::Slip) -> Slip {

@@ -1,8 +1,8 @@
-//! differential [SEED [COUNT]]: compares the proved library with the reference on COUNT pseudo-random cases, half of them one
-//! call, a quarter sessions, a quarter slips, and on a quarter as many again, slips that are written; then on one slip of each
-//! algorithm and padding cut and changed everywhere, on the longest message, and on slips written with every m and at the borders of
-//! every field. Every slip is gathered from reads too. differential SEED KIND INDEX runs one case again (call, session, slip,
-//! write, every, border, rooms, values).
+//! differential [SEED [COUNT]]: compares the proved library with the reference on COUNT pseudo-random cases, half of them one call,
+//! a quarter sessions that make or check a tag, a quarter slips, and on a quarter as many again, slips that are written; then on
+//! one slip of each algorithm and padding cut and changed everywhere, on the longest message, and on slips written with every m and
+//! at the borders of every field. Every slip is gathered from reads too. differential SEED KIND INDEX runs one case again (call,
+//! session, slip, write, every, border, rooms, values).
 //! Ends with status 1 at the first difference, and where, in 10,000 cases or more, an answer that can arise came too seldom.
 
 use differential::run::Run;
@@ -18,13 +18,16 @@ const COUNT: u64 = 400_000;
 const READ: &[&str] = &["0", "20", "21", "22", "23", "24", "25", "1", "2", "3", "4", "5", "10", "30"];
 
 /// The answers that can arise, of each function; a slip that was written is read back, one that was accepted written again, and one
-/// that was read is read under another agreement than it names; both are gathered from reads too.
-const ANSWERS: [(&str, &[&str]); 13] = [
+/// that was read is read under another agreement than it names; both are gathered from reads too. "11 other" is the answer to a
+/// finish of the other purpose, and "11 purpose" to a record that counts as closed for its purpose alone.
+const ANSWERS: [(&str, &[&str]); 15] = [
     ("make", &["0", "1", "2", "3", "4", "5", "7", "8", "9", "10"]),
     ("check", &["yes", "no", "1", "2", "3", "4", "5", "7", "8", "9", "10"]),
     ("start", &["0", "1", "2", "3", "4", "5", "8"]),
-    ("piece", &["0", "11", "7", "8", "12"]),
-    ("finish", &["0", "11", "12", "9", "10"]),
+    ("start_check", &["0", "1", "2", "3", "4", "5", "8", "10"]),
+    ("piece", &["0", "11", "11 purpose", "7", "8", "12"]),
+    ("finish", &["0", "11", "11 other", "11 purpose", "12", "9", "10"]),
+    ("finish_check", &["yes", "no", "11", "11 other", "11 purpose", "12", "9"]),
     ("read", READ),
     ("other", &["20", "21", "22", "23", "24", "25"]),
     ("write", &["0", "22", "23", "1", "2", "3", "4", "5", "10"]),
@@ -35,6 +38,9 @@ const ANSWERS: [(&str, &[&str]); 13] = [
     // Of the forged records few hold a whole slip, and so 1, 2, 3 and 5 are too few to be asked for.
     ("forged", &["0", "20", "21", "22", "23", "24", "25", "4", "10", "30"]),
 ];
+
+/// How a session ends that is compared with one call.
+const ENDS: [&str; 3] = ["made", "yes", "no"];
 
 /// A kind's place goes into the draws of its cases.
 const KINDS: [&str; 8] = ["call", "session", "slip", "every", "border", "write", "rooms", "values"];
@@ -75,7 +81,13 @@ fn too_seldom(run: &Run) -> Vec<String> {
         let few = answers.iter().filter(|answer| run.often(function, answer) <= all / 1000);
         seldom.extend(few.map(|answer| format!("{function} {answer}")));
     }
+    let few = ENDS.iter().filter(|end| like_one_call(run, end) <= run.calls_of("start") / 100);
+    seldom.extend(few.map(|end| format!("sessions like one call: {end}")));
     seldom
+}
+
+fn like_one_call(run: &Run, end: &str) -> u64 {
+    run.joined.get(end).copied().unwrap_or(0)
 }
 
 fn whole(run: &mut Run, seed: u64, count: u64) -> bool {
@@ -98,9 +110,14 @@ fn whole(run: &mut Run, seed: u64, count: u64) -> bool {
     }
     for (function, answers) in ANSWERS {
         let counts = answers.iter().map(|answer| format!("  {answer}: {}", run.often(function, answer)));
-        println!("{function:8}{}", counts.collect::<String>());
+        println!("{function:12}{}", counts.collect::<String>());
     }
-    println!("sessions with nothing forged that ended like one call: {}", run.joined);
+    let ends = ENDS.map(|end| format!("{end} {}", like_one_call(run, end)));
+    println!("sessions with nothing forged that ended like one call: {}", ends.join(", "));
+    let [yes, no, other] = ["yes", "no", "11 other"].map(|answer| run.often("finish_check", answer));
+    println!("checks in sessions: {yes} yes, {no} no, {other} refused with 11 for the other purpose");
+    let other = run.often("finish", "11 other");
+    println!("finishes that would make a tag: {other} refused with 11 for the other purpose");
     println!("slips gathered and answered like their bytes joined: {}", run.calls_of("gathered"));
     println!("forged records answered like the bytes they stand for: {}", run.calls_of("forged"));
     let (calls, seconds) = (run.calls(), begin.elapsed().as_secs_f64());

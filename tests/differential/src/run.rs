@@ -3,7 +3,7 @@
 
 use crate::library;
 use reference::gathered::{Gathered, MOST};
-use reference::session::{self, Record};
+use reference::session::{self, Record, MAKING};
 use reference::slip::{self, Says, Slip, Written};
 use reference::{hex, Agreement, Answer};
 use std::collections::BTreeMap;
@@ -15,13 +15,14 @@ const GUARD: usize = 8;
 pub struct Run {
     /// The words that repeat the case at hand.
     pub case: String,
-    /// Of each function, how often each number was answered; a checked "yes" and "no" stand apart, and so do the slips that are read
+    /// Of each function, how often each number was answered; a checked "yes" and "no" stand apart, and so do a finish of the other
+    /// purpose ("11 other") and a record that counts as closed for its purpose alone ("11 purpose"), and the slips that are read
     /// because they were written ("back"), written because they were read ("again"), and read under something else than they name
     /// ("other"), and records that are read ("gathered") or were forged ("forged"). Of a record that is handed back ("gather"),
     /// whether it is empty, holds a part of what fits, or is full.
     pub answers: BTreeMap<&'static str, BTreeMap<String, u64>>,
-    /// Sessions whose tag and calls were those of one call.
-    pub joined: u64,
+    /// Sessions whose end and calls were those of one call: a tag made, or yes or no said.
+    pub joined: BTreeMap<&'static str, u64>,
 }
 
 /// Bytes as a word of the reference's command lines.
@@ -38,12 +39,37 @@ pub fn words(Agreement { algorithm, padding, m }: Agreement) -> String {
     format!("{algorithm} {padding} {m}")
 }
 
-/// A record as the reference's command `forge` takes it.
+/// A record as the reference's commands `forge` and `aim` take it.
 fn forge(r: &Record) -> String {
-    let Record { phase, part, declared, total, .. } = r;
+    let Record { phase, part, purpose, declared, total, .. } = r;
     let numbers = format!("{phase} {part} {} {declared} {total}", words(r.agreement));
     let blocks = [&r.keys[..16], &r.keys[16..], &r.chain, &r.held].map(hex).join(" ");
-    format!("forge {numbers} {blocks}")
+    format!("forge {numbers} {blocks}; aim {purpose} {}", hex(&r.expected))
+}
+
+/// Yes, no, or the refusal's number.
+fn judged(answer: Answer) -> String {
+    match (answer.number, answer.yes) {
+        (0, 1) => "yes".to_string(),
+        (0, _) => "no".to_string(),
+        (number, _) => number.to_string(),
+    }
+}
+
+/// The number, but where a record counts as closed for its purpose alone "11 purpose".
+fn told(record: &Record, answer: Answer) -> String {
+    if record.purpose != MAKING && !record.is_open() && (Record { purpose: MAKING, ..*record }).is_open() {
+        return "11 purpose".to_string();
+    }
+    answer.number.to_string()
+}
+
+/// The same of a finish, and "11 other" where an open record is for the other purpose.
+fn ended(record: &Record, answer: Answer) -> String {
+    if answer.number == 11 && record.is_open() {
+        return "11 other".to_string();
+    }
+    told(record, answer)
 }
 
 /// A gathered record as two words of the reference's command `record`.
@@ -72,7 +98,7 @@ impl Room {
 
 impl Run {
     pub fn new() -> Run {
-        Run { case: String::new(), answers: BTreeMap::new(), joined: 0 }
+        Run { case: String::new(), answers: BTreeMap::new(), joined: BTreeMap::new() }
     }
 
     pub fn fail(&self, what: &str) -> ! {
@@ -137,12 +163,7 @@ impl Run {
         let line =
             || format!("check {} {} {} {bits} {}", words(agreement), word(keys), word(message), word(tag));
         self.same(&got, &want, line);
-        let told = match (want.number, want.yes) {
-            (0, 1) => "yes".to_string(),
-            (0, _) => "no".to_string(),
-            (number, _) => number.to_string(),
-        };
-        self.count("check", told);
+        self.count("check", judged(want));
         want
     }
 
@@ -154,11 +175,26 @@ impl Run {
         want
     }
 
+    pub fn start_check(
+        &mut self,
+        agreement: Agreement,
+        keys: &[u8],
+        declared: u64,
+        tag: &[u8],
+    ) -> (Record, Answer) {
+        let got = library::start_check(agreement, keys, declared, tag);
+        let want = session::start_check(agreement, keys, declared, tag);
+        let line = || format!("start_check {} {} {declared} {}", words(agreement), word(keys), word(tag));
+        self.same(&got, &want, line);
+        self.count("start_check", want.1.number.to_string());
+        want
+    }
+
     pub fn piece(&mut self, record: &Record, bytes: &[u8], bits: u64) -> (Record, Answer) {
         let got = library::piece(record, bytes, bits);
         let want = session::piece(*record, bytes, bits);
         self.same(&got, &want, || format!("{}; piece {} {bits}", forge(record), word(bytes)));
-        self.count("piece", want.1.number.to_string());
+        self.count("piece", told(record, want.1));
         want
     }
 
@@ -171,8 +207,22 @@ impl Run {
         let line = || format!("{}; finish {size}", forge(record));
         self.same(&got, &want, line);
         self.same(&ours.bytes, &theirs.bytes, || format!("{} (room)", line()));
-        self.count("finish", want.1.number.to_string());
+        self.count("finish", ended(record, want.1));
         (want.0, want.1, theirs.inner().to_vec())
+    }
+
+    pub fn finish_check(&mut self, record: &Record) -> (Record, Answer) {
+        let got = library::finish_check(record);
+        let want = session::finish_check(*record);
+        self.same(&got, &want, || format!("{}; finish_check", forge(record)));
+        let told = if want.1.number == 0 { judged(want.1) } else { ended(record, want.1) };
+        self.count("finish_check", told);
+        want
+    }
+
+    /// A session whose end was compared with one call.
+    pub fn like_one_call(&mut self, end: &'static str) {
+        *self.joined.entry(end).or_default() += 1;
     }
 
     pub fn read(&mut self, agreement: Agreement, keys: &[u8], slip: &[u8]) -> Slip {

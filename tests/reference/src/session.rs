@@ -1,9 +1,13 @@
-//! Sessions: a record handed from call to call by value (01 "Numbered answers", open points 15 to 23).
+//! Sessions: a record handed from call to call by value (01 "Numbered answers", 02 §3, open points 15 to 23 and 30).
 
 use crate::call::{settings_refusal, Agreement, Answer, LIMIT};
 use crate::mac::{truncate, two_keys, Engine};
 use crate::padding::{self, bytes_for};
 use crate::sm4::Block;
+
+/// The purposes of a session: its finish makes a tag, or says whether the expected one is right.
+pub const MAKING: u64 = 0;
+pub const CHECKING: u64 = 1;
 
 /// Any values may stand here; `is_open` judges them. A closed record as handed out is all zeros.
 #[derive(Clone, Copy, Debug, Default, PartialEq, Eq)]
@@ -12,6 +16,8 @@ pub struct Record {
     pub phase: u64,
     /// The bits of the part byte, 1 to 7, in phase 2; else 0.
     pub part: u64,
+    /// Making or checking; any other counts as closed.
+    pub purpose: u64,
     pub agreement: Agreement,
     /// Stored under padding 3 only, else 0.
     pub declared: u64,
@@ -23,6 +29,9 @@ pub struct Record {
     pub chain: Block,
     /// The waiting block, full or in part, zeros past the bits it holds.
     pub held: Block,
+    /// The tag that a check expects, spare bits as they were given, in the first ⌈m/8⌉ bytes; no others are read. After a start
+    /// zeros stand past them, and everywhere where a tag is made.
+    pub expected: Block,
 }
 
 impl Record {
@@ -48,6 +57,7 @@ impl Record {
             _ => false,
         };
         state_fits
+            && matches!(self.purpose, MAKING | CHECKING)
             && settings_refusal(self.agreement, self.keys_in_use()) == 0
             && self.total <= LIMIT
             && (self.agreement.padding != 3 || self.declared <= LIMIT && self.total <= self.declared)
@@ -69,18 +79,17 @@ impl Record {
     }
 }
 
-/// Starts a session; `declared` is read with padding 3 only. Refusals 1 to 6, then 8.
-/// An accepted start, like an accepted piece, answers number 0, yes 0, calls 0.
-pub fn start(agreement: Agreement, keys: &[u8], declared: u64) -> (Record, Answer) {
-    let Agreement { algorithm, padding, .. } = agreement;
-    let number = match settings_refusal(agreement, keys) {
-        0 if padding == 3 && declared > LIMIT => 8,
+fn start_refusal(agreement: Agreement, keys: &[u8], declared: u64) -> u64 {
+    match settings_refusal(agreement, keys) {
+        0 if agreement.padding == 3 && declared > LIMIT => 8,
         number => number,
-    };
-    if number != 0 {
-        return (Record::default(), Answer::refused(number));
     }
-    let mut record = Record { phase: 1, agreement, ..Record::default() };
+}
+
+/// The record before the first bit, for settings and a declared length that are not refused.
+fn begun(agreement: Agreement, keys: &[u8], declared: u64) -> Record {
+    let Agreement { algorithm, padding, .. } = agreement;
+    let mut record = Record { phase: 1, purpose: MAKING, agreement, ..Record::default() };
     record.keys[..keys.len()].copy_from_slice(keys);
     let mut engine = Engine::new(algorithm, keys);
     record.chain = engine.begin();
@@ -88,7 +97,30 @@ pub fn start(agreement: Agreement, keys: &[u8], declared: u64) -> (Record, Answe
         record.declared = declared;
         record.chain = engine.step(true, &record.chain, &padding::length_block(declared));
     }
-    (record, Answer::default())
+    record
+}
+
+/// Starts a session that makes a tag; `declared` is read with padding 3 only. Refusals 1 to 6, then 8.
+/// An accepted start, like an accepted piece, answers number 0, yes 0, calls 0.
+pub fn start(agreement: Agreement, keys: &[u8], declared: u64) -> (Record, Answer) {
+    match start_refusal(agreement, keys, declared) {
+        0 => (begun(agreement, keys, declared), Answer::default()),
+        number => (Record::default(), Answer::refused(number)),
+    }
+}
+
+/// Starts a session that checks this tag. Refusals 1 to 6, then 8, then 10 for a tag that has not just ⌈m/8⌉ bytes.
+pub fn start_check(agreement: Agreement, keys: &[u8], declared: u64, tag: &[u8]) -> (Record, Answer) {
+    let number = match start_refusal(agreement, keys, declared) {
+        0 if tag.len() as u64 != bytes_for(agreement.m) => 10,
+        number => number,
+    };
+    if number != 0 {
+        return (Record::default(), Answer::refused(number));
+    }
+    let mut expected = [0; 16];
+    expected[..tag.len()].copy_from_slice(tag);
+    (Record { purpose: CHECKING, expected, ..begun(agreement, keys, declared) }, Answer::default())
 }
 
 fn piece_refusal(record: &Record, bytes: &[u8], bits: u64) -> u64 {
@@ -105,7 +137,7 @@ fn piece_refusal(record: &Record, bytes: &[u8], bits: u64) -> u64 {
     }
 }
 
-/// Takes the next bits; a refused piece hands back the very record.
+/// Takes the next bits, whatever the session is for; a refused piece hands back the very record.
 pub fn piece(record: Record, bytes: &[u8], bits: u64) -> (Record, Answer) {
     let number = piece_refusal(&record, bytes, bits);
     if number != 0 {
@@ -129,30 +161,25 @@ pub fn piece(record: Record, bytes: &[u8], bits: u64) -> (Record, Answer) {
     (next, Answer::default())
 }
 
-fn finish_refusal(record: &Record, room: u64) -> u64 {
-    let Agreement { algorithm, padding, m } = record.agreement;
-    if !record.is_open() {
+/// What a finish for this purpose refuses, but for a room that is too short.
+fn finish_refusal(record: &Record, purpose: u64) -> u64 {
+    let Agreement { algorithm, padding, .. } = record.agreement;
+    if !record.is_open() || record.purpose != purpose {
         11
     } else if padding == 3 && record.total < record.declared {
         12
     } else if algorithm == 4 && padding::q(padding, record.total) < 2 {
         9
-    } else if room < bytes_for(m) {
-        10
     } else {
         0
     }
 }
 
-/// Writes the tag, closes the session and reports all its calls; a refusal hands back the very record.
-pub fn finish(record: Record, tag: &mut [u8]) -> (Record, Answer) {
-    let number = finish_refusal(&record, tag.len() as u64);
-    if number != 0 {
-        return (record, Answer::refused(number));
-    }
+/// The tag of an open record's bits in its first ⌈m/8⌉ bytes, and all calls of the session.
+fn tag_of(record: &Record) -> (Block, u64) {
     let Agreement { algorithm, padding, m } = record.agreement;
     let before = record.calls_before();
-    let mut last = record;
+    let mut last = *record;
     let mut engine = Engine::new(algorithm, last.keys_in_use());
     let complete = padding::complete(last.total);
     if padding == 2 && complete {
@@ -162,7 +189,34 @@ pub fn finish(record: Record, tag: &mut [u8]) -> (Record, Answer) {
         padding::set_bit(&mut last.held, last.total % 128);
     }
     let g = engine.last(complete, &last.chain, &last.held);
-    let size = bytes_for(m) as usize;
-    tag[..size].copy_from_slice(&truncate(algorithm, m, last.total, &g)[..size]);
-    (Record::default(), Answer { number: 0, yes: 1, calls: before + engine.calls })
+    (truncate(algorithm, m, last.total, &g), before + engine.calls)
+}
+
+/// Writes the tag, closes the session and reports all its calls; a refusal hands back the very record. Refusals: 11, also for a
+/// session that checks a tag, 12, 9, and 10 for a room of less than ⌈m/8⌉ bytes.
+pub fn finish(record: Record, tag: &mut [u8]) -> (Record, Answer) {
+    let size = bytes_for(record.agreement.m);
+    let number = match finish_refusal(&record, MAKING) {
+        0 if (tag.len() as u64) < size => 10,
+        number => number,
+    };
+    if number != 0 {
+        return (record, Answer::refused(number));
+    }
+    let (right, calls) = tag_of(&record);
+    tag[..size as usize].copy_from_slice(&right[..size as usize]);
+    (Record::default(), Answer { number: 0, yes: 1, calls })
+}
+
+/// Says whether the expected tag is the one of the bits, closes the session either way and reports all its calls; a refusal hands
+/// back the very record. Refusals: 11, also for a session that makes a tag, 12, 9.
+pub fn finish_check(record: Record) -> (Record, Answer) {
+    let number = finish_refusal(&record, CHECKING);
+    if number != 0 {
+        return (record, Answer::refused(number));
+    }
+    let (right, calls) = tag_of(&record);
+    let size = bytes_for(record.agreement.m) as usize;
+    let yes = u64::from(record.expected[..size] == right[..size]);
+    (Record::default(), Answer { number: 0, yes, calls })
 }

@@ -1,12 +1,14 @@
 //! Annex A of 000, the borders and runs of document 01, the appendix runs R3 to R7 of the requirements,
-//! the order of refusals, forged records, and slips, read, gathered from reads, and written.
+//! the order of refusals, forged records, and slips, read, gathered from reads, and written. Sessions that check a tag: checks.rs.
 
 use crate::call::LIMIT;
 use crate::cases::{draw_slip, draw_write, Random, Settings};
 use crate::gathered::{firsts, Gathered};
-use crate::session::{finish, piece, start, Record};
+use crate::session::{finish, finish_check, piece, start, Record, CHECKING, MAKING};
 use crate::slip::{self as slips, read, write, Says, Slip, Written};
 use crate::{check, hex, mac, make, padding, sm4, unhex, Agreement, Answer};
+
+mod checks;
 
 const K: &str = "0123456789ABCDEFFEDCBA9876543210";
 const KK: &str = "0123456789ABCDEFFEDCBA98765432104149D2ADED9456681EC8B511D9E7EE04";
@@ -54,6 +56,7 @@ fn in_session(agreement: Agreement, keys: &[u8], message: &[u8], cuts: &[u64]) -
         let bytes = &message[at / 8..at / 8 + padding::bytes_for(*cut) as usize];
         let (next, answer) = piece(record, bytes, *cut);
         assert_eq!((answer, next.is_open()), (number(0), true));
+        assert_eq!((next.purpose, next.expected), (MAKING, [0; 16]));
         record = next;
         at += *cut as usize;
     }
@@ -399,7 +402,9 @@ fn forged_records() {
     let good =
         [open, part, declared, two, four, free, second, Record { agreement: agreed(2, 1, 64), ..twisted }];
     let edges = [Record { total: 128, ..held(0xFF, open) }, Record { total: LIMIT, ..held(0xFF, open) }];
-    for record in good.into_iter().chain(edges) {
+    let aims = [(MAKING, [0; 16]), (MAKING, [0xA5; 16]), (CHECKING, [0; 16]), (CHECKING, [0xFF; 16])];
+    let aimed = |record: Record| aims.map(|(purpose, expected)| Record { purpose, expected, ..record });
+    for record in good.into_iter().chain(edges).flat_map(aimed) {
         assert!(record.is_open());
         assert_eq!(piece(record, &[], 0), (record, number(0)));
     }
@@ -439,11 +444,14 @@ fn forged_records() {
         Record { total: 120, ..held(0xFF, open) },
         Record { total: 136, ..held(0xFF, open) },
     ];
-    for (i, record) in bad.into_iter().enumerate() {
+    let far = [2, 3, 255, 256, 257, 1 << 32, (1 << 32) + 1, 1 << 63, u64::MAX];
+    let odd = far.into_iter().flat_map(|purpose| good.map(|record| Record { purpose, ..record }));
+    for (i, record) in bad.into_iter().flat_map(aimed).chain(odd).enumerate() {
         let mut tag = [0x5A; 16];
         assert!(!record.is_open(), "record {i}");
         assert_eq!(piece(record, &[], 0), (record, number(11)));
         assert_eq!(finish(record, &mut tag), (record, number(11)));
+        assert_eq!(finish_check(record), (record, number(11)));
         assert_eq!(tag, [0x5A; 16]);
     }
     // each single bit of the waiting block, held or past the bits it holds

@@ -1,5 +1,7 @@
-//! Keys, messages, annex A and the slips of the run R6, for all tests.
+//! Keys, messages, annex A, the slips of the run R6 and readers that deliver oddly, for all tests.
 #![allow(dead_code)] // each test file uses its own part
+
+use std::io::{self, ErrorKind, Read};
 
 use slipseal::{Agreement, Contents};
 
@@ -78,4 +80,23 @@ pub fn slip(seal: &str) -> Vec<u8> {
 /// The first slip of R6.
 pub fn first() -> Vec<u8> {
     slip(R6[0].1)
+}
+
+/// Gives one of these at each read, then the end of input; no bytes are the end of input too.
+pub struct Scanner<I>(pub I);
+
+impl<I: Iterator<Item = io::Result<Vec<u8>>>> Read for Scanner<I> {
+    fn read(&mut self, buffer: &mut [u8]) -> io::Result<usize> {
+        let bytes = self.0.next().unwrap_or(Ok(Vec::new()))?;
+        buffer[..bytes.len()].copy_from_slice(&bytes);
+        Ok(bytes.len())
+    }
+}
+
+pub fn byte_by_byte(bytes: &[u8]) -> impl Iterator<Item = io::Result<Vec<u8>>> + '_ {
+    bytes.iter().map(|byte| Ok(vec![*byte]))
+}
+
+pub fn interrupted() -> io::Result<Vec<u8>> {
+    Err(ErrorKind::Interrupted.into())
 }

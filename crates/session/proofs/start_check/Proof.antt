@@ -1,9 +1,7 @@
 -- `start_check` meets its contract: a start's refusal, then 10, then the fresh record with its purpose (`check-refused`, `check-ten`,
 -- `check-fresh`).
 -- Assumes nothing.
-use mathlib.Core.Path.{ap, _∙_}
-use Rattle.settings.specs.Answers.{numberOf}
-use Rattle.session.specs.declared.Step.{Step}
+use mathlib.Core.Path.{_∙_}
 use Rattle.session.proofs.Answers.{check-refused, check-ten, check-fresh}
 use borrow.Author.Needs.{needs}
 use Rattle.session.proofs.start_check.Statement.{statement}

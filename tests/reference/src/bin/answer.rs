@@ -2,16 +2,20 @@
 //!
 //!     make A P M KEYS MESSAGE BITS ROOM    check A P M KEYS MESSAGE BITS TAG
 //!     start A P M KEYS DECLARED    piece BYTES BITS    zeros BYTES PIECES    finish ROOM    same
+//!     start_check A P M KEYS DECLARED TAG    finish_check    aim PURPOSE EXPECTED
 //!     forge PHASE PART A P M DECLARED TOTAL K K1 CHAIN HELD
-//!     halves A P M KEYS MESSAGE CALLS TAG
+//!     halves A P M KEYS MESSAGE CALLS TAG    bytewise A P M KEYS MESSAGE BITS TAG
 //!     slip A P M KEYS SLIP    changed A P M KEYS SLIP    prefixes A P M KEYS SLIP
 //!     firsts A P M KEYS SLIP    trickled A P M KEYS SLIP SIZE    record A P M KEYS COUNT BYTES READ
 //!     write A P M KEYS YEAR MONTH DAY LOT AMOUNT ROOM
 //!
 //! Words have one blank between them. Numbers are decimal, below 2^64. Bytes are hex digits, at most 4096 bytes, and - is no
 //! bytes. ROOM is a number up to 32, of `write` up to 96: the room's bytes are EE before the call. PHASE is 0 closed, 1 edge,
-//! 2 part (with PART). `write` answers `written LENGTH bytes CALLS calls` and all bytes of the room; or `refused N`, then
-//! `with values` where its length or its calls are not 0, then `untouched`, or `CHANGED` where a byte of the room is another.
+//! 2 part (with PART); a forged record is for making and expects zeros. PURPOSE is 0 making, 1 checking, and EXPECTED up to 16
+//! bytes, zeros after them. `bytewise` feeds a session that checks the tag byte by byte, and answers as `check`; then it counts
+//! the tags with one bit turned that get no with the same calls, and answers for the message with its first bit turned. `write`
+//! answers `written LENGTH bytes CALLS calls` and all bytes of the room; or `refused N`, then `with values` where its length or its
+//! calls are not 0, then `untouched`, or `CHANGED` where a byte of the room is another.
 //! `firsts` takes each beginning of the slip as the first read, and counts the answers `alone` and `with the rest`; `trickled`
 //! takes the slip in reads of SIZE bytes, 1 to 4096. `record` takes up to 80 bytes, zeros after them, under any count, and answers
 //! `alone` and `with the read`, and with the record that this read leaves.
@@ -20,6 +24,7 @@
 //! with # and an empty line are printed alone.
 
 use reference::gathered::{self, Gathered};
+use reference::padding::bytes_for;
 use reference::session::{self, Record};
 use reference::slip::{self, Says, Tally, Written};
 use reference::{check, hex, make, unhex, Agreement, Answer};
@@ -82,6 +87,15 @@ fn written(Written { number, length, calls }: Written, room: &[u8]) -> String {
     format!("refused {number} {values}{}", kept(room))
 }
 
+/// What a call that checks a tag answers.
+fn checked(answer: Answer) -> String {
+    match (answer.number, answer.yes) {
+        (0, 1) => format!("yes {} calls", answer.calls),
+        (0, _) => format!("no {} calls", answer.calls),
+        (number, _) => format!("refused {number}"),
+    }
+}
+
 fn accepted(answer: Answer) -> String {
     match answer.number {
         0 => "accepted".to_string(),
@@ -103,6 +117,28 @@ fn halves(agreement: Agreement, keys: &[u8], message: &[u8], tag: &[u8], calls: 
     };
     let good = (0..=message.len()).filter(comes_out).count();
     format!("{good} of {} cuts", message.len() + 1)
+}
+
+/// What a session that checks a tag answers, for the tag, for each tag with one bit turned, and for the message with its first
+/// bit turned.
+fn bytewise(agreement: Agreement, keys: &[u8], message: &[u8], bits: u64, tag: &[u8]) -> String {
+    let answered = |message: &[u8], tag: &[u8]| {
+        let (mut record, _) = session::start_check(agreement, keys, bits, tag);
+        for (byte, at) in message.chunks(1).zip((0..).step_by(8)) {
+            (record, _) = session::piece(record, byte, (bits - at).min(8));
+        }
+        session::finish_check(record).1
+    };
+    let turned = |bytes: &[u8], bit: usize| {
+        let mut other = bytes.to_vec();
+        other.iter_mut().skip(bit / 8).take(1).for_each(|byte| *byte ^= 0x80 >> (bit % 8));
+        other
+    };
+    let (answer, tag_bits) = (answered(message, tag), 8 * tag.len());
+    let no = Answer { number: 0, yes: 0, calls: answer.calls };
+    let good = (0..tag_bits).filter(|bit| answered(message, &turned(tag, *bit)) == no).count();
+    let other = checked(answered(&turned(message, 0), tag));
+    format!("{}, {good} of {tag_bits} turned: no, message turned: {other}", checked(answer))
 }
 
 fn read(agreement: Agreement, keys: &[u8], slip: &[u8]) -> String {
@@ -162,15 +198,16 @@ impl State {
             ["check", a, p, m, keys, message, bits, tag] => {
                 let (keys, message, tag) = (bytes(keys)?, bytes(message)?, bytes(tag)?);
                 let answer = check(agreed(a, p, m)?, &keys, &message, number(bits)?, &tag);
-                Some(match (answer.number, answer.yes) {
-                    (0, 1) => format!("yes {} calls", answer.calls),
-                    (0, _) => format!("no {} calls", answer.calls),
-                    (number, _) => format!("refused {number}"),
-                })
+                Some(checked(answer))
             }
             ["halves", a, p, m, keys, message, calls, tag] => {
                 let agreement = agreed(a, p, m)?;
                 Some(halves(agreement, &bytes(keys)?, &bytes(message)?, &bytes(tag)?, number(calls)?))
+            }
+            ["bytewise", a, p, m, keys, message, bits, tag] => {
+                let (keys, message, tag) = (bytes(keys)?, bytes(message)?, bytes(tag)?);
+                let bits = number(bits).filter(|bits| bytes_for(*bits) == message.len() as u64)?;
+                Some(bytewise(agreed(a, p, m)?, &keys, &message, bits, &tag))
             }
             ["slip", a, p, m, keys, slip] => Some(read(agreed(a, p, m)?, &bytes(keys)?, &bytes(slip)?)),
             ["changed", a, p, m, keys, slip] => {
@@ -223,6 +260,22 @@ impl State {
                 let (next, answer) = session::finish(self.record, &mut room);
                 self.step(next, made(answer, &room))
             }
+            ["start_check", a, p, m, keys, declared, tag] => {
+                let (keys, declared, tag) = (bytes(keys)?, number(declared)?, bytes(tag)?);
+                let (next, answer) = session::start_check(agreed(a, p, m)?, &keys, declared, &tag);
+                self.step(next, accepted(answer))
+            }
+            ["finish_check"] => {
+                let (next, answer) = session::finish_check(self.record);
+                self.step(next, checked(answer))
+            }
+            ["aim", purpose, expected] => {
+                let purpose = number(purpose).filter(|purpose| *purpose <= 1)?;
+                let mut expected = bytes(expected)?;
+                expected.resize(expected.len().max(16), 0);
+                let next = Record { purpose, expected: expected.try_into().ok()?, ..self.record };
+                self.step(next, "aimed".to_string())
+            }
             ["same"] => Some(self.with_phase((if self.same { "same" } else { "changed" }).to_string())),
             ["forge", phase, part, a, p, m, declared, total, k, k1, chain, held] => {
                 let phase = number(phase).filter(|phase| *phase <= 2)?;
@@ -230,12 +283,14 @@ impl State {
                 let next = Record {
                     phase,
                     part: if phase == 2 { part } else { 0 },
+                    purpose: session::MAKING,
                     agreement: agreed(a, p, m)?,
                     declared: number(declared)?,
                     total: number(total)?,
                     keys: [block(k)?, block(k1)?].concat().try_into().unwrap(),
                     chain: block(chain)?,
                     held: block(held)?,
+                    expected: [0; 16],
                 };
                 self.step(next, "forged".to_string())
             }

@@ -1,0 +1,81 @@
+/* What both test programs share: the key and the message of annex A, the count of tests, and small comparisons. */
+#ifndef EXPECT_H
+#define EXPECT_H
+
+#include <stdio.h>
+#include <string.h>
+
+#include "slipseal.h"
+
+static const uint8_t key[16] = {0x01, 0x23, 0x45, 0x67, 0x89, 0xAB, 0xCD, 0xEF, 0xFE, 0xDC, 0xBA, 0x98, 0x76, 0x54, 0x32, 0x10};
+static const uint8_t message[] = "This is the test message for mac";
+
+/* Annex A.6, algorithm 5, padding 4, 64 bits. */
+static const uint8_t printed[8] = {0x69, 0x2C, 0x43, 0x71, 0x00, 0xF3, 0xB5, 0xEE};
+
+static int tests, failures;
+
+static inline void expect(int holds, const char *what)
+{
+    tests++;
+    if (!holds) {
+        failures++;
+        printf("failed: %s\n", what);
+    }
+}
+
+/* The last line of a program, and its status. */
+static inline int told_all(const char *name)
+{
+    printf("%s: %d tests, %d failed\n", name, tests, failures);
+    return failures != 0;
+}
+
+static inline int is(slipseal_answer a, uint64_t number, uint64_t yes, uint64_t calls)
+{
+    return a.number == number && a.yes == yes && a.calls == calls;
+}
+
+static inline slipseal_agreement agreed(uint64_t algorithm, uint64_t padding, uint64_t m)
+{
+    slipseal_agreement agreement;
+    agreement.algorithm = algorithm;
+    agreement.padding = padding;
+    agreement.m = m;
+    return agreement;
+}
+
+static inline int filled(const uint8_t *bytes, size_t length, uint8_t byte)
+{
+    size_t i;
+    for (i = 0; i < length; i++) {
+        if (bytes[i] != byte) {
+            return 0;
+        }
+    }
+    return 1;
+}
+
+static inline int same(const slipseal_session *a, const slipseal_session *b)
+{
+    return memcmp(a, b, sizeof *a) == 0;
+}
+
+/* A record for making a tag that holds the byte 61, with a chain value, a second key and an expected tag from nowhere. */
+static inline slipseal_session record_of(slipseal_agreement agreement, uint64_t declared, uint64_t total)
+{
+    slipseal_session record;
+    memset(&record, 0, sizeof record);
+    record.phase = 1;
+    record.agreement = agreement;
+    record.declared = declared;
+    record.total = total;
+    memcpy(record.keys, key, 16);
+    memset(record.keys + 16, 0xC3, 16);
+    memset(record.chain, 0x5A, 16);
+    record.held[0] = 'a';
+    memset(record.expected, 0x77, 16);
+    return record;
+}
+
+#endif
