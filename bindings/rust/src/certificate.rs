@@ -37,20 +37,20 @@ const CHUNK: usize = 32 << 10;
 /// let mut tag = [0; 8];
 /// scanner.read_exact(&mut tag)?;
 /// let mut told = Vec::new();
-/// let checked = check_reader(agreement, &key, 0, &tag, scanner, |bytes| told.push(bytes))?;
+/// let checked = check_reader(agreement, &key, scanner, 0, &tag, |bytes| told.push(bytes))?;
 /// assert!(checked.is_yes());
 /// assert_eq!(told, [12, 32]);
 ///
-/// let cut_off = check_reader(agreement, &key, 0, &tag, &bytes[8..20], |_| ())?;
+/// let cut_off = check_reader(agreement, &key, &bytes[8..20], 0, &tag, |_| ())?;
 /// assert!(!cut_off.is_yes());
 /// # Ok::<(), std::io::Error>(())
 /// ```
 pub fn check_reader(
     agreement: Agreement,
     keys: &[u8],
+    mut reader: impl Read,
     declared: usize,
     tag: &[u8],
-    mut reader: impl Read,
     mut on_progress: impl FnMut(u64),
 ) -> io::Result<Checked> {
     let mut session = match Session::check(agreement, keys, declared, tag) {
@@ -100,7 +100,7 @@ fn at_the_end(session: CheckingSession) -> Checked<Refusal> {
 /// std::fs::write(&path, b"certificate of analysis")?;
 /// # let mut room = [0; 8];
 /// # let tag = make(agreement, &[7; 16], b"certificate of analysis", 184, &mut room).unwrap().tag;
-/// match check_file(agreement, &[7; 16], tag, &path, |bytes| println!("{bytes} bytes"))? {
+/// match check_file(agreement, &[7; 16], &path, tag, |bytes| println!("{bytes} bytes"))? {
 ///     Checked::Yes { calls } => assert_eq!(calls, 3),
 ///     Checked::No { .. } => panic!("another tag"),
 ///     Checked::Refused(refusal) => panic!("{refusal}"),
@@ -111,11 +111,11 @@ fn at_the_end(session: CheckingSession) -> Checked<Refusal> {
 pub fn check_file(
     agreement: Agreement,
     keys: &[u8],
-    tag: &[u8],
     path: impl AsRef<Path>,
+    tag: &[u8],
     on_progress: impl FnMut(u64),
 ) -> io::Result<Checked> {
     let file = File::open(path)?;
     let declared = file.metadata()?.len().saturating_mul(8) as usize;
-    check_reader(agreement, keys, declared, tag, file, on_progress)
+    check_reader(agreement, keys, file, declared, tag, on_progress)
 }

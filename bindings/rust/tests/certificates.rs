@@ -59,7 +59,7 @@ fn chunks_of_32_kib_and_what_is_told() {
             for (tag, yes) in [(right, true), (wrong, false)] {
                 let mut told = Vec::new();
                 let checked =
-                    check_reader(agreement, &key(), 8 * length, &tag, &message[..], |bytes| told.push(bytes));
+                    check_reader(agreement, &key(), &message[..], 8 * length, &tag, |bytes| told.push(bytes));
                 assert_eq!(checked.unwrap().is_yes(), yes, "{length} bytes");
                 assert_eq!(told, progress, "{length} bytes");
             }
@@ -70,7 +70,7 @@ fn chunks_of_32_kib_and_what_is_told() {
 #[test]
 fn readers_that_deliver_oddly() {
     let tag = tag_of(PLAIN, MESSAGE);
-    let yes = |reader: &mut dyn Read| check_reader(PLAIN, &key(), 0, &tag, reader, |_| ()).unwrap().is_yes();
+    let yes = |reader: &mut dyn Read| check_reader(PLAIN, &key(), reader, 0, &tag, |_| ()).unwrap().is_yes();
     for cut in 0..=MESSAGE.len() {
         assert!(yes(&mut MESSAGE[..cut].chain(&MESSAGE[cut..])), "cut at {cut}");
         assert!(!yes(&mut MESSAGE[..cut].chain(&b"x"[..]).chain(&MESSAGE[cut..])), "a byte more at {cut}");
@@ -79,7 +79,7 @@ fn readers_that_deliver_oddly() {
     let often = byte_by_byte(MESSAGE).flat_map(|byte| [interrupted(), interrupted(), byte]);
     let mut told = Vec::new();
     let scanner = Scanner(often.chain([interrupted()]));
-    let checked = check_reader(PLAIN, &key(), 0, &tag, scanner, |bytes| told.push(bytes)).unwrap();
+    let checked = check_reader(PLAIN, &key(), scanner, 0, &tag, |bytes| told.push(bytes)).unwrap();
     assert_eq!(checked, Checked::Yes { calls: 3 });
     assert_eq!(told, (1..=32).collect::<Vec<_>>());
     let mut after_the_end = Scanner(byte_by_byte(MESSAGE).chain([Ok(Vec::new()), Ok(vec![0])]));
@@ -97,7 +97,7 @@ fn readers_that_fail() {
             let scanner =
                 Scanner(byte_by_byte(&MESSAGE[..cut]).chain(failure).chain(byte_by_byte(&MESSAGE[cut..])));
             let mut told = 0;
-            let error = check_reader(PLAIN, &key(), 0, &tag, scanner, |bytes| told = bytes).unwrap_err();
+            let error = check_reader(PLAIN, &key(), scanner, 0, &tag, |bytes| told = bytes).unwrap_err();
             assert_eq!((error.kind(), error.to_string()), (kind, "unplugged".into()), "after {cut} bytes");
             assert_eq!(told, cut as u64);
         }
@@ -114,7 +114,7 @@ fn a_refused_start_reads_nothing() {
         (agreed(5, 4, 64), 16, 0, 9, 10),
     ] {
         let checked =
-            check_reader(agreement, &key()[..keys], declared, &[0; 9][..tag], Untouched, |_| panic!());
+            check_reader(agreement, &key()[..keys], Untouched, declared, &[0; 9][..tag], |_| panic!());
         assert_eq!(number(checked.unwrap()), refusal);
     }
 }
@@ -125,13 +125,13 @@ fn too_long() {
     let message = certificate(LIMIT);
     let tag = tag_of(PLAIN, &message);
     let mut told = Vec::new();
-    let checked = check_reader(PLAIN, &key(), 0, &tag, &message[..], |bytes| told.push(bytes)).unwrap();
+    let checked = check_reader(PLAIN, &key(), &message[..], 0, &tag, |bytes| told.push(bytes)).unwrap();
     assert_eq!(checked, Checked::Yes { calls: 65_537 });
     assert_eq!(told, (1..=32).map(|chunk| 32_768 * chunk).collect::<Vec<_>>());
     for more in [io::repeat(0).take(1), io::repeat(0).take(u64::MAX)] {
         let mut last = 0;
         let long = (&message[..]).chain(more);
-        let checked = check_reader(PLAIN, &key(), 0, &tag, long, |bytes| last = bytes).unwrap();
+        let checked = check_reader(PLAIN, &key(), long, 0, &tag, |bytes| last = bytes).unwrap();
         assert_eq!((number(checked), last), (8, LIMIT as u64));
     }
 }
@@ -141,13 +141,13 @@ fn not_as_long_as_declared() {
     let tag = tag_of(DECLARED, MESSAGE);
     for (declared, length, refusal) in [(256, 32, 0), (256, 31, 12), (248, 32, 12), (0, 1, 12), (257, 32, 12)]
     {
-        let checked = check_reader(DECLARED, &key(), declared, &tag, &MESSAGE[..length], |_| ()).unwrap();
+        let checked = check_reader(DECLARED, &key(), &MESSAGE[..length], declared, &tag, |_| ()).unwrap();
         assert_eq!(number(checked), refusal, "{declared} bits declared, {length} bytes");
         assert_eq!(checked.is_yes(), refusal == 0);
     }
     let late = MESSAGE.chain(&[0; 1][..]).chain(Untouched);
-    assert_eq!(number(check_reader(DECLARED, &key(), 256, &tag, late, |_| ()).unwrap()), 12);
-    let short = check_reader(agreed(4, 1, 64), &keys(), 0, &tag, &MESSAGE[..16], |_| ()).unwrap();
+    assert_eq!(number(check_reader(DECLARED, &key(), late, 256, &tag, |_| ()).unwrap()), 12);
+    let short = check_reader(agreed(4, 1, 64), &keys(), &MESSAGE[..16], 0, &tag, |_| ()).unwrap();
     assert_eq!(number(short), 9);
 }
 
@@ -176,11 +176,11 @@ fn files() {
         for agreement in [PLAIN, DECLARED] {
             let right = tag_of(agreement, &message);
             let mut told = 0;
-            let checked = check_file(agreement, &key(), &right, &file.0, |bytes| told = bytes).unwrap();
+            let checked = check_file(agreement, &key(), &file.0, &right, |bytes| told = bytes).unwrap();
             assert!(checked.is_yes(), "{length} bytes");
             assert_eq!(told, length as u64);
             let wrong: Vec<u8> = right.iter().map(|byte| !byte).collect();
-            let checked = check_file(agreement, &key(), &wrong, &file.0, |_| ()).unwrap();
+            let checked = check_file(agreement, &key(), &file.0, &wrong, |_| ()).unwrap();
             assert!(matches!(checked, Checked::No { .. }), "{length} bytes");
         }
     }
@@ -198,7 +198,7 @@ fn a_file_that_grows() {
             File::options().append(true).open(&file.0).unwrap().write_all(b"x").unwrap();
         }
     };
-    assert_eq!(number(check_file(DECLARED, &key(), &tag, &file.0, grow).unwrap()), 12);
+    assert_eq!(number(check_file(DECLARED, &key(), &file.0, &tag, grow).unwrap()), 12);
 }
 
 #[test]
@@ -206,11 +206,11 @@ fn files_that_are_too_long_or_not_there() {
     let file = Scratch::new("long", &certificate(LIMIT + 1));
     for agreement in [PLAIN, DECLARED] {
         let mut told = 0;
-        let checked = check_file(agreement, &key(), &[0; 8], &file.0, |bytes| told = bytes).unwrap();
+        let checked = check_file(agreement, &key(), &file.0, &[0; 8], |bytes| told = bytes).unwrap();
         assert_eq!(number(checked), 8);
         assert_eq!(told, if agreement == PLAIN { LIMIT as u64 } else { 0 });
     }
-    let nowhere = check_file(PLAIN, &key(), &[0; 8], "/nowhere/certificate", |_| ()).unwrap_err();
+    let nowhere = check_file(PLAIN, &key(), "/nowhere/certificate", &[0; 8], |_| ()).unwrap_err();
     assert_eq!(nowhere.kind(), ErrorKind::NotFound);
-    assert!(check_file(PLAIN, &key(), &[0; 8], std::env::temp_dir(), |_| ()).is_err(), "a folder");
+    assert!(check_file(PLAIN, &key(), std::env::temp_dir(), &[0; 8], |_| ()).is_err(), "a folder");
 }

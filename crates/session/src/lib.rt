@@ -32,7 +32,7 @@ pub enum Purpose {
 }
 
 // What was agreed, the declared length, the bits so far, the keys as they were given, what the chain holds, and the tag that a check
-// expects, of which the agreed bits count alone.
+// expects: as many of the bytes count as the agreed bits fill or begin.
 pub struct Session {
     pub phase: Phase,
     pub purpose: Purpose,
