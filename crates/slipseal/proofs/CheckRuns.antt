@@ -3,19 +3,22 @@
 -- exactly where the tag given at the start is the definition's for the joined bits, and the struct closed and zero (`c-checked`,
 -- `c-yes-exactly`); `slipseal_check` in one call says the same (`c-same-as-one-check`). An accepted start leaves the session open
 -- (`start-check-open`). A finish of the other purpose gets 11 and the very struct (`c-finish-other`, `c-check-other`), and so does any
--- call on a struct whose purpose is neither 0 nor 1 (`c-odd-piece`, `c-odd-finish`, `c-odd-check`).
+-- call on a struct whose purpose is neither 0 nor 1 (`c-odd-piece`, `c-odd-finish`, `c-odd-check`). Expected bytes past those of the
+-- agreed bits have no influence (`c-check-free`).
 -- Assumes nothing.
 use mathlib.Core.Path.{_≡_, refl, sym, ap, _∙_, subst}
 use mathlib.Core.Bool.{Bool, true, false}
 use mathlib.Core.List.{List}
 use Prim.Native.Nat.{ℕ, _<_}
 use native.Mathlib.Omega.{arith}
+use lib.ListN.{take}
 use contract.Lifetimes.{Lfts}
 use borrow.Fn.Kinds.{Dens}
 use Rattle.bits.specs.Choice.{pick}
 use Rattle.bits.specs.Once.{Allowed}
 use Rattle.bits.specs.Str.{Bits, sameBytes}
 use Rattle.bits.proofs.Same.{sameBytes-true, sameBytes-eq}
+use Rattle.mac.specs.Tag.{bytesFor}
 use Rattle.mac.specs.Session.{joined}
 use Rattle.keys.specs.Given.{keysOf}
 use Rattle.settings.specs.Answers.{numberOf, reportedCalls}
@@ -27,19 +30,19 @@ use Rattle.tag.proofs.Numbers.{tagged, listed, verdictOf}
 use Rattle.session.specs.declared.Purpose.the-variants as purpose
 use Rattle.session.specs.declared.Session as session
 use Rattle.session.specs.declared.Step as session-step
-use Rattle.session.specs.Record.{cleared}
+use Rattle.session.specs.Record.{cleared, aimed}
 use Rattle.session.specs.Calls.{startCheckOf, finishCheckOf}
 use Rattle.session.proofs.Joined.{Act, handed, gathered, Running, joined-check}
 use Rattle.session.proofs.StaysOpen.{start-check-opens}
 use Rattle.session.proofs.AsOneCall.{Holds}
 use Rattle.session.proofs.AsOneCheck.{checked-as-one-call}
-use Rattle.session.proofs.OtherPurpose.{other-finish, other-check}
+use Rattle.session.proofs.OtherPurpose.{other-finish, other-check, check-aimed}
 use Rattle.slipseal.specs.declared.Answer.{Answer}
 use Rattle.slipseal.specs.declared.Session.{Session}
 use Rattle.slipseal.specs.declared.Step.{Step}
 use Rattle.slipseal.specs.Border.{yesOf, toldOf, purposeFrom, inward, outward, handedOut, handedBack, finishedBack}
 use Rattle.slipseal.proofs.Crossing.{out-and-in, refused11, odd-purpose, odd-piece, odd-finish, odd-check}
-use Rattle.slipseal.proofs.Runs.{Pieced, Finished, FinishedCheck, judging, finish-check-number, Run, run-inward}
+use Rattle.slipseal.proofs.Runs.{back-answer, Pieced, Finished, FinishedCheck, judging, finish-check-number, Run, run-inward}
 use Rattle.slipseal.proofs.slipseal_check.Kinds as check-k
 use Rattle.slipseal.proofs.slipseal_check.Reads as check
 use Rattle.slipseal.proofs.slipseal_start_check.Kinds as start-check-k
@@ -100,6 +103,32 @@ module _ (κs : Lfts 0) (a : Dens κs finish-check-k.ps) (x : FinishedCheck κs 
     where
       makes-it : inward (a .0) .purpose ≡ purpose.Making
       makes-it = ap purposeFrom e
+
+-- the struct with another tag expected
+abbrev pub expectingOther : List ℕ → Session → Session
+expectingOther e r = record {
+  phase = r .phase;
+  part = r .part;
+  purpose = r .purpose;
+  agreement = r .agreement;
+  declared = r .declared;
+  total = r .total;
+  keys = r .keys;
+  chain = r .chain;
+  held = r .held;
+  expected = e;
+}
+
+module _ (e : List ℕ) (κs : Lfts 0) (a : Dens κs finish-check-k.ps) (x : FinishedCheck κs a) (λs : Lfts 0) (b : Dens λs finish-check-k.ps) (y : FinishedCheck λs b) where
+  pub c-check-free : a .0 .purpose ≡ 1 → b .0 ≡ expectingOther e (a .0) → take (bytesFor (a .0 .agreement .m)) e ≡ take (bytesFor (a .0 .agreement .m)) (a .0 .expected)
+      → y .result .answer ≡ x .result .answer
+  unfolding inward aimed purposeFrom pick
+  c-check-free mine same bytes =
+      ap (λ (r : Step). r .answer) (y .ensures) ∙ back-answer (b .0) (finishCheckOf (inward (b .0)))
+      ∙ ap (λ (r : Session). toldOf (finishCheckOf (inward r) .answer)) same
+      ∙ ap (λ (q : ℕ). toldOf (finishCheckOf (aimed (purposeFrom q) e (inward (a .0))) .answer)) mine
+      ∙ ap toldOf (check-aimed e (inward (a .0)) (ap purposeFrom mine) bytes)
+      ∙ sym (ap (λ (r : Step). r .answer) (x .ensures) ∙ back-answer (a .0) (finishCheckOf (inward (a .0))))
 
 -- ---- a whole run: a start that was accepted, calls, a finish that says yes or no
 

@@ -73,7 +73,7 @@ offered κs a = record { bytes = a .1 .0 .now; bits = a .1 .1 .0 }
 
 module _ (came : Session) (t : session-step.Step) where
   -- the answer, refused or not
-  back-answer : handedBack came t .answer ≡ toldOf (t .answer)
+  pub back-answer : handedBack came t .answer ≡ toldOf (t .answer)
   unfolding handedBack handedOut pick
   back-answer = go (eqb (numberOf (t .answer)) 0)
     where
