@@ -294,11 +294,12 @@ pub fn start_check(agreement: settings::Agreement, keys: &[u8], declared: usize,
 {
     let step = start(agreement, keys, declared);
     let answer = step.answer;
-    let no = number_of(answer);
-    if no != 0 {
-        return refused_start(no);
+    let number = number_of(answer);
+    let ten = message::tag_length_wrong(agreement.m, tag.len());
+    if number != 0 {
+        return refused_start(number);
     }
-    if message::tag_length_wrong(agreement.m, tag.len()) {
+    if ten {
         return refused_start(10);
     }
     let begun = step.session;

@@ -9,33 +9,35 @@ use Rattle.session.proofs.start_check.Tie as tie
 
 returns : tie.Need-returns
 returns c =
-    let told = c .before .before in
+    let told = c .before .before .before in
     let begun = told .before in
     let a = begun .before .before .before .args in
     c .refused-start .ensures ∙ check-refused (a .agreement) (a .keys .now) (a .declared) (a .tag .now) (begun .start .result) (begun .start .ensures) (told .number-of .result) (told .number-of .ensures) (c .before .if1 .taken)
 
 returns-2 : tie.Need-returns-2
 returns-2 c =
-    let judged = c .before .before in
-    let told = judged .before .before in
+    let first = c .before .before in
+    let judged = first .before in
+    let told = judged .before in
     let begun = told .before in
     let a = begun .before .before .before .args in
     c .refused-start2 .ensures
-    ∙ check-ten (a .agreement) (a .keys .now) (a .declared) (a .tag .now) (begun .start .result) (begun .start .ensures) (told .number-of .result) (told .number-of .ensures) (judged .before .if1 .left)
+    ∙ check-ten (a .agreement) (a .keys .now) (a .declared) (a .tag .now) (begun .start .result) (begun .start .ensures) (told .number-of .result) (told .number-of .ensures) (first .if1 .left)
     (judged .tag-length-wrong .result) (judged .tag-length-wrong .ensures) (c .before .if2 .taken)
 
 returns-3 : tie.Need-returns-3
 returns-3 c =
     let front = c .before in
-    let judged = front .before .before .before in
-    let told = judged .before .before in
+    let second = front .before .before in
+    let judged = second .before .before in
+    let told = judged .before in
     let begun = told .before in
     let a = begun .before .before .before .args in
-    check-fresh (a .agreement) (a .keys .now) (a .declared) (a .tag .now) (begun .start .result) (begun .start .ensures) (told .number-of .result) (told .number-of .ensures) (judged .before .if1 .left)
-    (judged .tag-length-wrong .result) (judged .tag-length-wrong .ensures) (front .before .before .if2 .left) (c .to-check .result) (front .front .result) (front .front .ensures) (c .to-check .ensures)
+    check-fresh (a .agreement) (a .keys .now) (a .declared) (a .tag .now) (begun .start .result) (begun .start .ensures) (told .number-of .result) (told .number-of .ensures) (second .before .if1 .left)
+    (judged .tag-length-wrong .result) (judged .tag-length-wrong .ensures) (second .if2 .left) (c .to-check .result) (front .front .result) (front .front .ensures) (c .to-check .ensures)
 
 pub start-check-spec : {M : Type 1} → statement M
 start-check-spec =
     tie.close
-    (tie.spec (λ c κs. search needs) (λ c κs. search needs) (λ c κs. search needs) returns (λ c κs. search needs)
-    (λ c κs. search needs) returns-2 (λ c κs. search needs) (λ c κs. search needs) returns-3)
+    (tie.spec (λ c κs. search needs) (λ c κs. search needs) (λ c κs. search needs) (λ c κs. search needs) returns (λ c κs. search needs)
+    returns-2 (λ c κs. search needs) (λ c κs. search needs) returns-3)
