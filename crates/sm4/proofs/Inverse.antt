@@ -12,8 +12,9 @@ use Rattle.bits.proofs.Packed.{length-bytesBits}
 use Rattle.bits.proofs.Strings.{xorB-comm, xorB-assoc, xorB-twice, length-xorB}
 use Rattle.sm4.specs.Cipher.{Quad, quad, flat, four, τ, T, F, round, rounds, R, enc, dec, roundKeys, encrypted, decrypted}
 use Rattle.sm4.specs.Table.{rotations}
-use Rattle.sm4.proofs.Laws.{Long, length-Sbox, quad-flat, rounds-snoc}
+use Rattle.sm4.proofs.Laws.{Long, length-Sbox, quad-flat}
 use Rattle.sm4.proofs.Rotations.{linear}
+use Rattle.sm4.proofs.Walk.{rounds-snoc}
 
 -- ---- T gives 32 bits
 

@@ -1,21 +1,17 @@
--- What the functions' proofs cite: a block is four words of 32 bits, and the code's arrays, written out element by element,
--- are those words; one round more is one key more at the end.
+-- A block is four words of 32 bits, and the code's arrays, written out element by element, are those words.
 -- Assumes nothing.
 use mathlib.Core.Path.{_≡_, refl, sym, ap, ap₂, _∙_, subst}
-use mathlib.Core.List.{List, [], _∷_, _++_, flatMap, reverse, reverse-cons}
-use Prim.Native.Nat.{ℕ, zero, suc, _+_, _-_, _≤_, _<_}
-use native.Mathlib.Nat.{zero-add, add-zero, add-suc, suc-add}
-use native.Mathlib.Numerals.{add-one}
+use mathlib.Core.List.{List, [], _∷_, _++_, flatMap}
+use Prim.Native.Nat.{ℕ, zero, suc, _<_}
 use native.Mathlib.Omega.{arith}
 use lib.Bits.{bitXor}
-use lib.ListN.{length, take, drop, getD, set, length-map}
-use lib.Seq.{take-at, drop-at, take-suc-set, take-all, drop-cons, drop-drop}
+use lib.ListN.{length, take, drop, getD}
+use lib.Seq.{take-at, drop-at, take-all, drop-drop}
 use Rattle.bits.specs.Str.{Bits, bitsN, bytesBits, words, xorB}
 use Rattle.bits.proofs.Numbers.{length-bitsN}
 use Rattle.bits.proofs.Strings.{take-xorB, drop-xorB, bitsN-xor}
-use Rattle.bits.proofs.Packed.{bytesBits-append, words-set, spread, spread-all}
-use Rattle.sm4.specs.Constants.{CK, CKs}
-use Rattle.sm4.specs.Cipher.{Quad, quad, flat, four, Sbox, τ, F, round, rounds, made}
+use Rattle.bits.proofs.Packed.{bytesBits-append, spread, spread-all}
+use Rattle.sm4.specs.Cipher.{Quad, quad, flat, four, Sbox, τ}
 
 -- ---- four words of 32 bits, and a block
 
@@ -114,51 +110,6 @@ pub τ-bytes : (a b c d : ℕ) → τ (bytesBits (a ∷ b ∷ c ∷ d ∷ [])) �
 unfolding τ bytesBits flatMap bitsN
 τ-bytes a b c d = refl
 
--- ---- one round more
-
-pub rounds-snoc : (t : Bits → Bits) (X : Quad) (ks : List Bits) (k : Bits) → rounds t X (ks ++ (k ∷ [])) ≡ round t (rounds t X ks) k
-unfolding rounds
-rounds-snoc t X [] k = refl
-rounds-snoc t X (j ∷ ks) k = rounds-snoc t (round t X j) ks k
-
-made-snoc : (t : Bits → Bits) (X : Quad) (ks : List Bits) (k : Bits) → made t X (ks ++ (k ∷ [])) ≡ made t X ks ++ (F t (rounds t X ks) k ∷ [])
-unfolding rounds made
-made-snoc t X [] k = refl
-made-snoc t X (j ∷ ks) k = ap (λ (l : List Bits). F t X j ∷ l) (made-snoc t (round t X j) ks k)
-
--- what the code writes is the last word of the new state
-pub made-more : (t : Bits → Bits) (X Y : Quad) (ks : List Bits) (k : Bits) (w : ℕ) (r : List ℕ) (i : ℕ) → i < length r
-    → bitsN 32 w ≡ Y .x3 → Y ≡ round t (rounds t X ks) k → words (take i r) ≡ made t X ks
-    → words (take (i + 1) (set r i w)) ≡ made t X (ks ++ (k ∷ []))
-unfolding round
-made-more t X Y ks k w r i h newest new before =
-    words-set r i w h
-    ∙ ap₂ (λ (ws : List Bits) (v : Bits). ws ++ (v ∷ [])) before (newest ∙ ap (λ (Y : Quad). Y .x3) new)
-    ∙ sym (made-snoc t X ks k)
-
--- ---- the constants of the key expansion
-
-CKs-at : (n i j : ℕ) → j < n → getD (CKs n i) j [] ≡ CK (i + j)
-unfolding CKs
-CKs-at zero i j h = absurd (omega arith)
-CKs-at (suc n) i zero h = ap CK (sym (add-zero i))
-CKs-at (suc n) i (suc j) h = CKs-at n (suc i) j (omega arith) ∙ ap CK (suc-add i j ∙ sym (add-suc i j))
-
-pub length-CKs : length (CKs 32 0) ≡ 32
-unfolding CKs
-length-CKs = refl
-
-module _ (i : ℕ) (below : i < 32) where
-  pub CKs-ith : getD (CKs 32 0) i [] ≡ CK i
-  CKs-ith = CKs-at 32 0 i below ∙ ap CK (zero-add i)
-
-  -- a table that follows the rule has the ith
-  pub constant-at : (c : List ℕ) → words c ≡ CKs 32 0 → bitsN 32 (getD c i 0) ≡ CK i
-  unfolding words
-  constant-at c e =
-      sym (words-at c i (omega (arith, length-map c (bitsN 32), ap length e, length-CKs)))
-      ∙ ap (λ (ws : List Bits). getD ws i []) e ∙ CKs-ith
-
 -- ---- two blocks in words, by xor
 
 abbrev both : Quad → Quad → Quad
@@ -192,19 +143,3 @@ four-xor x y hx hy =
     whole : (z : List ℕ) (h : length z ≡ 4) → quad (flat (four (words z)))
         ≡ record { x0 = bitsN 32 (getD z 0 0); x1 = bitsN 32 (getD z 1 0); x2 = bitsN 32 (getD z 2 0); x3 = bitsN 32 (getD z 3 0) }
     whole z h = quad-flat (four (words z)) (long-words z h) ∙ four-words z h
-
--- ---- a list backwards, one element more
-
-pub back-more : (n i : ℕ) (l r : List ℕ) → length l ≡ suc n → length r ≡ suc n → i ≤ n → take i r ≡ reverse (drop (suc n - i) l)
-    → take (i + 1) (set r i (getD l (n - i) 0)) ≡ reverse (drop (suc n - (i + 1)) l)
-back-more n i l r hl hr h e =
-    let x = getD l (n - i) 0 in
-    ap (λ (m : ℕ). take m (set r i x)) (add-one i) ∙ take-suc-set r i x (omega arith) ∙ ap (λ (u : List ℕ). u ++ (x ∷ [])) e
-    ∙ sym (ap (λ (m : ℕ). reverse (drop m l)) low ∙ ap reverse (drop-cons l (n - i) 0 (omega arith)) ∙ reverse-cons x (drop (suc (n - i)) l)
-    ∙ ap (λ (m : ℕ). reverse (drop m l) ++ (x ∷ [])) high)
-  where
-    low : suc n - (i + 1) ≡ n - i
-    low = omega arith
-
-    high : suc (n - i) ≡ suc n - i
-    high = omega arith

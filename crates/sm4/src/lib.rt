@@ -6,7 +6,7 @@ ghost use mathlib.Core.List.{reverse};
 ghost use Prim.Native.Nat.{_<_};
 ghost use lib.ListN.{length};
 ghost use Rattle.bits.specs.Str.{bitsN, bytesBits, words, xorB};
-ghost use Rattle.sm4.specs.Constants.{FK, CK, CKs};
+ghost use Rattle.sm4.specs.Constants.{FK, ck, CK};
 ghost use Rattle.sm4.specs.Cipher.{quad, flat, four, Sbox, L, T, rounds, R, enc, dec, roundKeys};
 ghost use Rattle.sm4.specs.Table.{rotations, mixing, placed, table, wide};
 ghost use Rattle.sm4.specs.Split.{joined, Ready, Stepped};
@@ -16,43 +16,6 @@ mod words;
 pub type Table = [u32; 512];
 
 pub type Wide = [u32; 768];
-
-const FK: [u32; 4] = [0xa3b1bac6, 0x56aa3350, 0x677d9197, 0xb27022dc];
-
-const CK: [u32; 32] = [
-    0x00070e15,
-    0x1c232a31,
-    0x383f464d,
-    0x545b6269,
-    0x70777e85,
-    0x8c939aa1,
-    0xa8afb6bd,
-    0xc4cbd2d9,
-    0xe0e7eef5,
-    0xfc030a11,
-    0x181f262d,
-    0x343b4249,
-    0x50575e65,
-    0x6c737a81,
-    0x888f969d,
-    0xa4abb2b9,
-    0xc0c7ced5,
-    0xdce3eaf1,
-    0xf8ff060d,
-    0x141b2229,
-    0x30373e45,
-    0x4c535a61,
-    0x686f767d,
-    0x848b9299,
-    0xa0a7aeb5,
-    0xbcc3cad1,
-    0xd8dfe6ed,
-    0xf4fb0209,
-    0x10171e25,
-    0x2c333a41,
-    0x484f565d,
-    0x646b7279,
-];
 
 // ---- tables
 
@@ -275,13 +238,29 @@ pub fn decrypt(t: &Table, rk: [u32; 32], block: [u8; 16]) -> [u8; 16]
 
 // ---- keys
 
-// The constant of round i, out of a lent table that follows the rule.
-fn constant(c: &[u32; 32], i: usize) -> u32
-    requires { ⌜ (words (now c) ≡ CKs 32 0) × (i < 32) ⌝ }
+// Byte j of the constant CKi, the highest counted as 0.
+fn constant_byte(i: usize, j: usize) -> u8
+    requires { ⌜ (i < 32) × (j < 4) ⌝ }
+    ensures { λ r. ⌜ r ≡ ck i j ⌝ }
+{
+    (7 * (4 * i + j) % 256) as u8
+}
+
+// The constant CKi of round i.
+fn constant(i: usize) -> u32
+    requires { ⌜ i < 32 ⌝ }
     ensures { λ r. ⌜ bitsN 32 r ≡ CK i ⌝ }
 {
-    c[i]
+    bits::word(
+        constant_byte(i, 0),
+        constant_byte(i, 1),
+        constant_byte(i, 2),
+        constant_byte(i, 3),
+    )
 }
+
+// FK0 to FK3.
+const FK: [u32; 4] = [0xa3b1bac6, 0x56aa3350, 0x677d9197, 0xb27022dc];
 
 // MK xor FK.
 fn key_start(key: [u8; 16]) -> [u32; 4]
@@ -295,12 +274,11 @@ pub fn schedule(t: &Table, key: [u8; 16]) -> [u32; 32]
     requires { ⌜ now t ≡ table ⌝ }
     ensures { λ r. ⌜ words r ≡ roundKeys (bytesBits key) ⌝ }
 {
-    let c = CK;
-    let mut s = parted(key_start(key), constant(&c, 0));
+    let mut s = parted(key_start(key), constant(0));
     let mut r = [0u32; 32];
     let mut i: usize = 0;
     while i < 32 {
-        let next = step(t, 1, s, constant(&c, (i + 1) % 32));
+        let next = step(t, 1, s, constant((i + 1) % 32));
         s = next;
         r[i] = s.m ^ s.n;
         i += 1;

@@ -1,12 +1,11 @@
 -- `wide_rounds` meets its contract, as `rounds` does.
 -- Assumes nothing.
-use mathlib.Core.Path.{_≡_, ap, _∙_}
-use Prim.Native.Nat.{_+_, _-_}
-use lib.ListN.{length}
+use mathlib.Core.Path.{ap, _∙_}
+use Prim.Native.Nat.{_-_}
 use borrow.Author.Needs.{needs}
 use Rattle.bits.specs.Str.{words}
-use Rattle.sm4.specs.Cipher.{rounds, R, T}
-use Rattle.sm4.proofs.Walk.{Walked, length-keys, key-at, walk-start, walk-on, walk-end}
+use Rattle.sm4.specs.Cipher.{R, T}
+use Rattle.sm4.proofs.Walk.{Walked, keys-start, keys-on, walk-end}
 use Rattle.sm4.proofs.wide_rounds.Statement.{statement}
 use Rattle.sm4.proofs.wide_rounds.Tie as tie
 
@@ -17,27 +16,18 @@ abbrev μ-loop : tie.MeasureT-loop
 μ-loop t w rk s₀ i₀ s i = 32 - i
 
 loop-holds : tie.Need-loop-holds Inv-loop μ-loop
-loop-holds c =
-    let rk = c .before .args .t3 in
-    let all : length rk ≡ 32 = search needs in
-    walk-start T (words rk) (length-keys rk all) (c .parted .result) _ (key-at rk all 0) (c .parted .ensures .1)
+loop-holds c = keys-start T (c .before .args .t3) (search needs) (c .parted .result) (c .parted .ensures .1)
 
 loop-again : tie.Need-loop-again Inv-loop μ-loop
 loop-again c =
-    let at = c .before .before in
-    let l = at .loop in
-    let rk = at .before .before .args .t3 in
-    let all : length rk ≡ 32 = search needs in
-    walk-on T (words rk) (length-keys rk all) _ (l .s) (c .wide-step .result) (l .i) (l .inv) (search needs) _ (key-at rk all (l .i + 1)) (c .wide-step .ensures)
+    let l = c .before .before .loop in
+    keys-on T _ (search needs) _ (l .s) (c .wide-step .result) (l .i) (l .inv) (search needs) (c .wide-step .ensures)
 
 returns : tie.Need-returns Inv-loop μ-loop
 returns c =
     let at = c .before .before in
     let l = at .loop in
-    let rk = at .before .before .args .t3 in
-    let all : length rk ≡ 32 = search needs in
-    c .reversed .ensures
-    ∙ ap R (walk-end T (words rk) (length-keys rk all) _ (l .s) (l .i) (l .inv) (search needs) ∙ ap (λ X. rounds T X (words rk)) (at .before .parted .ensures .0))
+    c .reversed .ensures ∙ ap R (walk-end T _ _ (l .s) (l .i) _ (l .inv) (search needs) (at .before .parted .ensures .0))
 
 pub wide-rounds-spec : {M : Type 1} → statement M
 wide-rounds-spec =
