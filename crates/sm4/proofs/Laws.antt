@@ -70,22 +70,12 @@ module _ (xs : List ℕ) (h : length xs ≡ 4) where
       subst Long (sym four-words)
       (record { l0 = length-bitsN 32 _; l1 = length-bitsN 32 _; l2 = length-bitsN 32 _; l3 = length-bitsN 32 _ })
 
--- ---- sixteen bytes as four words, and back
+-- ---- four words as sixteen bytes
 
 packed : (a b c d : List ℕ) (X : Quad) → bytesBits a ≡ X .x0 → bytesBits b ≡ X .x1 → bytesBits c ≡ X .x2 → bytesBits d ≡ X .x3
     → bytesBits (a ++ (b ++ (c ++ d))) ≡ flat X
 unfolding flat
 packed a b c d X ha hb hc hd = simp bytesBits-append (cc)
-
-pub loaded : (b : List ℕ) (x y z w : ℕ) → length b ≡ 16
-    → bitsN 32 x ≡ bytesBits (spread 4 0 b) → bitsN 32 y ≡ bytesBits (spread 4 4 b)
-    → bitsN 32 z ≡ bytesBits (spread 4 8 b) → bitsN 32 w ≡ bytesBits (spread 4 12 b)
-    → four (words (x ∷ y ∷ z ∷ w ∷ [])) ≡ quad (bytesBits b)
-unfolding four words spread
-loaded b x y z w h hx hy hz hw =
-    let X = four (words (x ∷ y ∷ z ∷ w ∷ [])) in
-    let whole = packed (spread 4 0 b) (spread 4 4 b) (spread 4 8 b) (spread 4 12 b) X (sym hx) (sym hy) (sym hz) (sym hw) in
-    sym (quad-flat X (long-words (x ∷ y ∷ z ∷ w ∷ []) refl)) ∙ ap quad (sym whole ∙ ap bytesBits (spread-all 16 b h))
 
 pub stored : (x a b c d : List ℕ) → length x ≡ 4 → length a ≡ 4 → length b ≡ 4 → length c ≡ 4 → length d ≡ 4
     → bytesBits a ≡ bitsN 32 (getD x 0 0) → bytesBits b ≡ bitsN 32 (getD x 1 0)

@@ -3,8 +3,8 @@
 // once. Long messages take a wide table besides, which spares them the turning of what is looked up; there it is worth its copying.
 ghost use mathlib.Core.Path.{_≡_};
 ghost use mathlib.Core.List.{reverse};
-ghost use Prim.Native.Nat.{_<_};
-ghost use lib.ListN.{length};
+ghost use Prim.Native.Nat.{_*_, _<_, _≤_};
+ghost use lib.ListN.{length, take, drop};
 ghost use Rattle.bits.specs.Str.{bitsN, bytesBits, words, xorB};
 ghost use Rattle.sm4.specs.Constants.{FK, ck, CK};
 ghost use Rattle.sm4.specs.Cipher.{quad, flat, four, Sbox, L, T, rounds, R, enc, dec, roundKeys};
@@ -121,17 +121,20 @@ fn reversed(s: Split) -> [u32; 4]
 
 // ---- blocks
 
-// The sixteen bytes of a part as four words, the first byte highest.
+// Four bytes of a part, from place k on, as a word, the first byte highest.
+fn word_at(s: &[u8], k: usize) -> u32
+    requires { ⌜ (length (now s) ≡ 16) × (k ≤ 12) ⌝ }
+    ensures { λ r. ⌜ bitsN 32 r ≡ take 32 (drop (8 * k) (bytesBits (now (s .entry)))) ⌝ }
+{
+    bits::word(s[k], s[k + 1], s[k + 2], s[k + 3])
+}
+
+// The sixteen bytes of a part as four words.
 pub fn load(s: &[u8]) -> [u32; 4]
     requires { ⌜ length (now s) ≡ 16 ⌝ }
     ensures { λ r. ⌜ four (words r) ≡ quad (bytesBits (now (s .entry))) ⌝ }
 {
-    [
-        bits::word(s[0], s[1], s[2], s[3]),
-        bits::word(s[4], s[5], s[6], s[7]),
-        bits::word(s[8], s[9], s[10], s[11]),
-        bits::word(s[12], s[13], s[14], s[15]),
-    ]
+    [word_at(s, 0), word_at(s, 4), word_at(s, 8), word_at(s, 12)]
 }
 
 // Four words as sixteen bytes.

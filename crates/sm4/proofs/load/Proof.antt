@@ -1,25 +1,19 @@
--- `load` meets its contract: each word's bits are those of its four bytes, and the four words one after the other are the sixteen
--- bytes.
+-- `load` meets its contract: its words are the four quarters of the part's bits.
 -- Assumes nothing.
-use Rattle.bits.proofs.Packed.{spread}
-use Rattle.sm4.proofs.Laws.{loaded}
 use borrow.Author.Needs.{needs}
+use Rattle.bits.specs.Str.{words}
+use Rattle.sm4.specs.Cipher.{quad, four}
 use Rattle.sm4.proofs.load.Statement.{statement}
 use Rattle.sm4.proofs.load.Tie as tie
 
 returns : tie.Need-returns
-unfolding spread
+unfolding quad four words
 returns c =
-    let third = c .before .before .before .before .before in
-    let second = third .before .before .before .before .before in
-    let first = second .before .before .before .before .before in
-    let part = first .before .before .before .before .before .before .args .s .now in
-    loaded part _ _ _ _ (search needs) (first .word .ensures) (second .word2 .ensures) (third .word3 .ensures) (c .word4 .ensures)
+    let w2 = c .before in
+    let w1 = w2 .before in
+    let w0 = w1 .before in
+    λ i. record { x0 = w0 .word-at .ensures i; x1 = w1 .word-at2 .ensures i; x2 = w2 .word-at3 .ensures i; x3 = c .word-at4 .ensures i }
 
 pub load-spec : {M : Type 1} → statement M
 load-spec =
-    tie.close
-    (tie.spec (λ c. search needs) (λ c. search needs) (λ c. search needs) (λ c. search needs) (λ c κs. search needs)
-    (λ c. search needs) (λ c. search needs) (λ c. search needs) (λ c. search needs) (λ c κs. search needs) (λ c. search needs)
-    (λ c. search needs) (λ c. search needs) (λ c. search needs) (λ c κs. search needs) (λ c. search needs) (λ c. search needs)
-    (λ c. search needs) (λ c. search needs) (λ c κs. search needs) returns)
+    tie.close (tie.spec (λ c κs. search needs) (λ c κs. search needs) (λ c κs. search needs) (λ c κs. search needs) returns)
