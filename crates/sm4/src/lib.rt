@@ -121,7 +121,7 @@ fn reversed(s: Split) -> [u32; 4]
 
 // ---- blocks
 
-// Four bytes of a part, from place k on, as a word, the first byte highest.
+// Four bytes of a part, from place k on, as a word.
 fn word_at(s: &[u8], k: usize) -> u32
     requires { ⌜ (length (now s) ≡ 16) × (k ≤ 12) ⌝ }
     ensures { λ r. ⌜ bitsN 32 r ≡ take 32 (drop (8 * k) (bytesBits (now (s .entry)))) ⌝ }
@@ -129,7 +129,7 @@ fn word_at(s: &[u8], k: usize) -> u32
     bits::word(s[k], s[k + 1], s[k + 2], s[k + 3])
 }
 
-// The sixteen bytes of a part as four words.
+// The sixteen bytes of a part as four words, the first byte highest.
 pub fn load(s: &[u8]) -> [u32; 4]
     requires { ⌜ length (now s) ≡ 16 ⌝ }
     ensures { λ r. ⌜ four (words r) ≡ quad (bytesBits (now (s .entry))) ⌝ }
