@@ -1,3 +1,4 @@
+pub mod Listed
 pub mod Laws
 pub mod Rotations
 pub mod Lookup

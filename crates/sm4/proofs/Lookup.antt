@@ -4,7 +4,6 @@
 use mathlib.Core.Path.{_≡_, refl, sym, ap, ap₂, _∙_}
 use mathlib.Core.List.{List, [], _∷_, _++_, zipWith, append-assoc, append-nil}
 use Prim.Native.Nat.{ℕ, zero, suc, _+_, _-_, _*_, _%_, _<_}
-use native.Mathlib.Nat.{zero-add, add-zero, add-suc, suc-add}
 use native.Mathlib.Omega.{arith}
 use lib.ListN.{length, getD, length-append, List·getD-append}
 use lib.Seq.{getD-append-add}
@@ -14,6 +13,7 @@ use Rattle.bits.proofs.Strings.{length-xorB, length-zeros, xorB-beside}
 use Rattle.bits.proofs.Packed.{spread, spread-all}
 use Rattle.sm4.specs.Cipher.{Sbox, τ, L, L′, T, T′}
 use Rattle.sm4.specs.Table.{rotations, mixing, placed, entry, entries, table, wide}
+use Rattle.sm4.proofs.Listed.{length-listed, listed}
 use Rattle.sm4.proofs.Laws.{length-Sbox, τ-bytes}
 use Rattle.sm4.proofs.Rotations.{linear}
 
@@ -87,27 +87,21 @@ entry-bits l j x e =
     ap (λ (n : ℕ). bitsN n (numOf w)) (sym (linear l .long (substitute j x) ∙ length-substitute j x e)) ∙ bitsN-numOf w
 
 module _ (l : Bits → Bits) (j : ℕ) where
-  length-entries : (n x : ℕ) → length (entries l j n x) ≡ n
+  length-entries : length (entries l j 256 0) ≡ 256
   unfolding entries
-  length-entries zero x = refl
-  length-entries (suc n) x = ap suc (length-entries n (suc x))
-
-  entries-at : (n x i : ℕ) → i < n → getD (entries l j n x) i 0 ≡ entry l j (x + i)
-  unfolding entries
-  entries-at zero x i h = absurd (omega arith)
-  entries-at (suc n) x zero h = ap (entry l j) (sym (add-zero x))
-  entries-at (suc n) x (suc i) h = entries-at n (suc x) i (omega arith) ∙ ap (entry l j) (suc-add x i ∙ sym (add-suc x i))
+  length-entries = length-listed (entry l j) (entries l j) (λ x. refl) (λ n x. refl) 256 0
 
   getD-entries : (x : ℕ) → x < 256 → getD (entries l j 256 0) x 0 ≡ entry l j x
-  getD-entries x h = entries-at 256 0 x h ∙ ap (entry l j) (zero-add x)
+  unfolding entries
+  getD-entries x h = listed (entry l j) (entries l j) (λ x. refl) (λ n x. refl) 256 x 0 h
 
   -- in the first of several tables, and past it
   getD-first : (x : ℕ) (r : List ℕ) → x < 256 → getD (entries l j 256 0 ++ r) x 0 ≡ entry l j x
-  getD-first x r h = List·getD-append (entries l j 256 0) r 0 x (omega (arith, length-entries 256 0)) ∙ getD-entries x h
+  getD-first x r h = List·getD-append (entries l j 256 0) r 0 x (omega (arith, length-entries)) ∙ getD-entries x h
 
   getD-past : (x : ℕ) (r : List ℕ) → getD (entries l j 256 0 ++ r) (256 + x) 0 ≡ getD r x 0
   getD-past x r =
-      ap (λ (n : ℕ). getD (entries l j 256 0 ++ r) (n + x) 0) (sym (length-entries 256 0)) ∙ getD-append-add (entries l j 256 0) r x 0
+      ap (λ (n : ℕ). getD (entries l j 256 0 ++ r) (n + x) 0) (sym length-entries) ∙ getD-append-add (entries l j 256 0) r x 0
 
 getD-at : (t : List ℕ) (j x n : ℕ) → 256 * j + x ≡ n → getD t (256 * j + x) 0 ≡ getD t n 0
 getD-at t j x n e = ap (λ (m : ℕ). getD t m 0) e

@@ -4,8 +4,7 @@
 -- Assumes nothing.
 use mathlib.Core.Path.{_≡_, refl, sym, ap, ap₂, subst, _∙_}
 use mathlib.Core.List.{List, [], _∷_, _++_}
-use Prim.Native.Nat.{ℕ, zero, suc, _+_, _≤_, _<_, _%_}
-use native.Mathlib.Nat.{zero-add, add-zero, add-suc, suc-add}
+use Prim.Native.Nat.{ℕ, _+_, _≤_, _<_, _%_}
 use native.Mathlib.Numerals.{add-one}
 use native.Mathlib.Omega.{arith}
 use lib.ListN.{length, take, getD, set, length-map}
@@ -16,6 +15,7 @@ use Rattle.sm4.specs.Constants.{CK, CKs}
 use Rattle.sm4.specs.Cipher.{Quad, F, round, rounds, made}
 use Rattle.sm4.specs.Split.{joined, Ready, Stepped}
 use Rattle.sm4.specs.declared.Split.{Split}
+use Rattle.sm4.proofs.Listed.{listed}
 use Rattle.sm4.proofs.Laws.{words-at}
 
 -- ---- one key more
@@ -93,15 +93,10 @@ module _ (t : Bits → Bits) (rk : List ℕ) (all : length rk ≡ 32) where
 
 -- ---- under the constants
 
-CKs-at : (n i j : ℕ) → j < n → getD (CKs n i) j [] ≡ CK (i + j)
-unfolding CKs
-CKs-at zero i j h = absurd (omega arith)
-CKs-at (suc n) i zero h = ap CK (sym (add-zero i))
-CKs-at (suc n) i (suc j) h = CKs-at n (suc i) j (omega arith) ∙ ap CK (suc-add i j ∙ sym (add-suc i j))
-
 pub length-CKs : length (CKs 32 0) ≡ 32
 unfolding CKs
 length-CKs = refl
 
 pub CK-at : (i : ℕ) → i < 32 → CK i ≡ getD (CKs 32 0) i []
-CK-at i h = sym (CKs-at 32 0 i h ∙ ap CK (zero-add i))
+unfolding CKs
+CK-at i h = sym (listed CK CKs (λ i. refl) (λ n i. refl) 32 i [] h)
