@@ -1,4 +1,5 @@
--- A block is four words of 32 bits, and the code's arrays, written out element by element, are those words.
+-- A block is four words of 32 bits, and the code's arrays, written out element by element, are those words; the bytes of a word go
+-- through the byte table one by one, and two blocks by xor word by word.
 -- Assumes nothing.
 use mathlib.Core.Path.{_≡_, refl, sym, ap, ap₂, _∙_, subst}
 use mathlib.Core.List.{List, [], _∷_, _++_, flatMap}
