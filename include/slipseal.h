@@ -46,8 +46,10 @@
  *   24  there are bytes after the seal
  *   25  the slip names another algorithm, padding or m than agreed
  *   30  the seal is wrong
+ *   41  no such whole block
  *
  * When a slip is written, 22 and 23 speak of the lot, the amount and the date handed in, and 10 of the room for the whole slip.
+ * When a block is restored, 3 speaks of every m but 128.
  *
  * Keys stay where the caller put them, and a session's record holds a copy. Copies that a call made on the stack are not wiped,
  * and nothing is promised about how long a call takes. */
@@ -144,6 +146,18 @@ slipseal_answer slipseal_make(slipseal_agreement agreement, const uint8_t *keys,
  * where the tag is the message's and 0 where it is not (a set spare bit too), and either way the calls are reported. */
 slipseal_answer slipseal_check(slipseal_agreement agreement, const uint8_t *keys, size_t keys_len, const uint8_t *message,
                                size_t message_len, size_t bits, const uint8_t *tag, size_t tag_len);
+
+/* Works a lost block of a message out of the other bits and the full tag, and writes it where it was. Blocks are whole ones of 128
+ * bits, counted from 0 in the message's bits; the block with the length, of padding 3, is not counted. Refusals: 1 to 10, rising,
+ * as by slipseal_check, 3 also where m is not 128 (algorithm 7 always gets it); then 41 where there is no such whole block, that
+ * is, where block is not under bits / 128. The answer is the refusal's number, and the message then stays as it was. Otherwise it
+ * is 0, and the sixteen bytes at message + 16 * block are written. What they held has no influence, and no other byte is touched.
+ * They are the only filling that the tag fits; slipseal_check says yes with the same inputs. Cipher calls are not reported.
+ * What a restored block is worth: no more than the tag and the rest of the message. Every tag has exactly one filling. A false
+ * tag, or an altered byte elsewhere in the message, restores to some block too, and slipseal_check says yes to that as well. After
+ * a restoration its yes is no evidence for any byte of the message. */
+uint64_t slipseal_restore(slipseal_agreement agreement, const uint8_t *keys, size_t keys_len, uint8_t *message,
+                          size_t message_len, size_t bits, size_t block, const uint8_t *tag, size_t tag_len);
 
 /* Starts a session that makes a tag. declared is the message's number of bits; it is read under padding 3 only. Refusals: 1 to 6,
  * rising, then 8 where the declared length is over 8388608. A refused start hands back a closed record of zeros. Otherwise the

@@ -50,6 +50,15 @@ fn agree_on_check(what: &str, key: &[u8], message: &[u8], tag: &[u8], yes: u64, 
     );
 }
 
+/// Each lost block comes back, and no other byte changes.
+fn agree_on_restore(key: &[u8], message: &[u8], tag: &[u8]) {
+    for (name, block) in work::LOST {
+        let mut lent = message.to_vec();
+        agree(&format!("restore, {name}"), work::library_restore(key, &mut lent, block, tag), 0);
+        agree(&format!("restore, {name}, the message"), lent == message, true);
+    }
+}
+
 fn agree_on_slip(what: &str, key: &[u8], slip: &[u8], number: u64) {
     let read = work::library_slip(key, slip);
     agree(what, read, work::baseline_slip(key, slip));
@@ -79,6 +88,7 @@ fn main() {
     let (tag, [_, _, calls]) = &tagged;
     agree_on_check("check", key, message, tag, 1, *calls);
     agree_on_check("check of a wrong tag", key, message, &tag.map(|byte| byte ^ 1), 0, *calls);
+    agree_on_restore(key, message, tag);
     let cmac = agree_on_make("make, algorithm 5", five, key, message, &peers);
     agree_on_make("make on 16 bytes, algorithm 1", one, key, short, &[]);
     agree_on_make("make on 16 bytes, algorithm 5", five, key, short, &peers);
@@ -99,6 +109,12 @@ fn main() {
         work::session_line("session of 64 KiB pieces over 1 MiB, algorithm 1, MiB a second", key, message),
         work::check_line(
             "check in a session of 32 KiB pieces over 1 MiB, algorithm 1, MiB a second",
+            key,
+            message,
+            tag,
+        ),
+        work::restore_line(
+            "a block of 1 MiB restored, beside the check of it, algorithm 1, MiB a second",
             key,
             message,
             tag,

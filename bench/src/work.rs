@@ -1,6 +1,6 @@
 //! The measured work, each piece as the library, the baseline and, for CMAC, the peers do it: a tag in one call, a session, a check
-//! in a session, a slip read, a slip gathered and read, a slip written. Answers are turned into plain numbers, so that they can be
-//! compared.
+//! in a session, a slip read, a slip gathered and read, a slip written; and lost blocks restored by the library, beside its own
+//! check. Answers are turned into plain numbers, so that they can be compared.
 
 use crate::measure::{Line, Way};
 use crate::peer::Peer;
@@ -13,6 +13,13 @@ pub const SHORT_BYTES: usize = 16;
 const PIECE_BYTES: usize = 64 << 10;
 /// Of a check in a session: the chunks of the bindings.
 const CHUNK_BYTES: usize = 32 << 10;
+const BLOCK_BYTES: usize = 16;
+/// Which blocks of the message are lost, each alone.
+pub const LOST: [(&str, usize); 3] = [
+    ("first block", 0),
+    ("middle block", MESSAGE_BYTES / BLOCK_BYTES / 2),
+    ("last block", MESSAGE_BYTES / BLOCK_BYTES - 1),
+];
 /// How often a short piece of work is done each time.
 pub const SHORT_CALLS: usize = 1000;
 
@@ -66,6 +73,13 @@ pub fn baseline_session(key: &[u8], message: &[u8]) -> Tagged {
 pub fn library_check(key: &[u8], message: &[u8], tag: &[u8]) -> [u64; 3] {
     let answer = raw::check(agreed(1, 1), key, message, 8 * message.len(), tag);
     [answer.number, answer.yes, answer.calls]
+}
+
+/// Zeros in the place of a block of the message, then the block restored; the number.
+pub fn library_restore(key: &[u8], message: &mut [u8], block: usize, tag: &[u8]) -> u64 {
+    message[block * BLOCK_BYTES..][..BLOCK_BYTES].fill(0);
+    let bits = 8 * message.len();
+    raw::restore(agreed(1, 1), key, message, bits, block, tag)
 }
 
 pub fn library_check_session(key: &[u8], message: &[u8], tag: &[u8]) -> [u64; 3] {
@@ -190,6 +204,16 @@ pub fn check_line<'a>(what: &'static str, key: &'a [u8], message: &'a [u8], tag:
     let mut line = line(what, 1, library, baseline);
     line.ways.push(Way::new("in one call", move || library_check(key, black_box(message), tag)));
     line
+}
+
+/// The library's check stands first, so that the ratios tell how many times as long a restoration takes.
+pub fn restore_line<'a>(what: &'static str, key: &'a [u8], message: &'a [u8], tag: &'a [u8]) -> Line<'a> {
+    let mut ways = vec![Way::new("check", move || library_check(key, black_box(message), tag))];
+    for (name, block) in LOST {
+        let mut lent = message.to_vec();
+        ways.push(Way::new(name, move || library_restore(key, black_box(&mut lent), block, tag)));
+    }
+    Line { what, amount: 1.0, ways }
 }
 
 pub fn slip_line<'a>(what: &'static str, key: &'a [u8], slip: &'a [u8]) -> Line<'a> {

@@ -237,16 +237,6 @@ static void part_byte(void)
 
 /* ---- annex A */
 
-static size_t unhex(const char *digits, uint8_t *bytes)
-{
-    size_t count = 0;
-    unsigned byte;
-    while (sscanf(digits + 2 * count, "%2x", &byte) == 1) {
-        bytes[count++] = (uint8_t)byte;
-    }
-    return count;
-}
-
 /* Byte by byte, the tag given at the start. */
 static slipseal_step checked(slipseal_agreement a, const uint8_t *keys, size_t keys_len, size_t len, const uint8_t *tag)
 {
@@ -276,30 +266,21 @@ static void annex_tag(slipseal_agreement a, const uint8_t *keys, size_t keys_len
 static void annex_a(void)
 {
     FILE *const file = fopen("annex_a.txt", "r");
-    char line[256], digits[3][80];
-    unsigned algorithm, padding, data;
+    vector v;
     int vectors = 0;
-    while (file != NULL && fgets(line, sizeof line, file) != NULL) {
-        uint8_t keys[40], tag[40], g[40];
-        size_t keys_len, len, i;
-        if (sscanf(line, "%u %u %u %79s %79s %79s", &algorithm, &padding, &data, digits[0], digits[1], digits[2]) != 6) {
-            continue; /* words about the file */
-        }
+    while (next_vector(file, &v)) {
+        size_t i;
         vectors++;
-        len = data == 1 ? 32 : 25;
-        keys_len = unhex(digits[0], keys);
-        unhex(digits[1], tag);
-        unhex(digits[2], g);
-        if (algorithm != 7) {
-            annex_tag(agreed(algorithm, padding, 64), keys, keys_len, len, tag);
-            annex_tag(agreed(algorithm, padding, 128), keys, keys_len, len, g);
+        if (v.algorithm != 7) {
+            annex_tag(agreed(v.algorithm, v.padding, 64), v.keys, v.keys_len, v.len, v.tag);
+            annex_tag(agreed(v.algorithm, v.padding, 128), v.keys, v.keys_len, v.len, v.g);
             continue;
         }
-        for (i = 0; i < 8 && len == 25; i++) {
-            tag[i] = (uint8_t)(tag[i] << 1 | (i < 7 ? tag[i + 1] >> 7 : 0)); /* the last 63 bits */
+        for (i = 0; i < 8 && v.len == 25; i++) {
+            v.tag[i] = (uint8_t)(v.tag[i] << 1 | (i < 7 ? v.tag[i + 1] >> 7 : 0)); /* the last 63 bits */
         }
-        tag[7] &= 0xFE;
-        annex_tag(agreed(7, padding, 63), keys, keys_len, len, tag);
+        v.tag[7] &= 0xFE;
+        annex_tag(agreed(7, v.padding, 63), v.keys, v.keys_len, v.len, v.tag);
     }
     expect(vectors == 36, "annex_a.txt has 36 tags");
     if (file != NULL) {

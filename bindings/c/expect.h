@@ -1,4 +1,4 @@
-/* What both test programs share: the key and the message of annex A, the count of tests, and small comparisons. */
+/* What the test programs share: the keys, the message and the tags of annex A, the count of tests, and small comparisons. */
 #ifndef EXPECT_H
 #define EXPECT_H
 
@@ -9,6 +9,9 @@
 
 static const uint8_t key[16] = {0x01, 0x23, 0x45, 0x67, 0x89, 0xAB, 0xCD, 0xEF, 0xFE, 0xDC, 0xBA, 0x98, 0x76, 0x54, 0x32, 0x10};
 static const uint8_t message[] = "This is the test message for mac";
+
+/* K' of annex A; K is the key above. */
+static const uint8_t second[16] = {0x41, 0x49, 0xD2, 0xAD, 0xED, 0x94, 0x56, 0x68, 0x1E, 0xC8, 0xB5, 0x11, 0xD9, 0xE7, 0xEE, 0x04};
 
 /* Annex A.6, algorithm 5, padding 4, 64 bits. */
 static const uint8_t printed[8] = {0x69, 0x2C, 0x43, 0x71, 0x00, 0xF3, 0xB5, 0xEE};
@@ -76,6 +79,42 @@ static inline slipseal_session record_of(slipseal_agreement agreement, uint64_t 
     record.held[0] = 'a';
     memset(record.expected, 0x77, 16);
     return record;
+}
+
+/* A line of annex_a.txt, which lies in the folder that the program is started in. The message is the first len bytes of the one
+ * above. */
+typedef struct vector {
+    unsigned algorithm, padding;
+    size_t keys_len, len;
+    uint8_t keys[40], tag[40], g[40];
+} vector;
+
+static inline size_t unhex(const char *digits, uint8_t *bytes)
+{
+    size_t count = 0;
+    unsigned byte;
+    while (sscanf(digits + 2 * count, "%2x", &byte) == 1) {
+        bytes[count++] = (uint8_t)byte;
+    }
+    return count;
+}
+
+/* Whether there was one more. */
+static inline int next_vector(FILE *file, vector *v)
+{
+    char line[256], digits[3][80];
+    unsigned data;
+    while (file != NULL && fgets(line, sizeof line, file) != NULL) {
+        if (sscanf(line, "%u %u %u %79s %79s %79s", &v->algorithm, &v->padding, &data, digits[0], digits[1], digits[2]) != 6) {
+            continue; /* words about the file */
+        }
+        v->len = data == 1 ? 32 : 25;
+        v->keys_len = unhex(digits[0], v->keys);
+        unhex(digits[1], v->tag);
+        unhex(digits[2], v->g);
+        return 1;
+    }
+    return 0;
 }
 
 #endif

@@ -1,5 +1,6 @@
 /* Tests of the header against the library: the layout of the structs, and each function accepted and refused, with all that it
- * hands back. Checks in a session are in checking.c. The many inputs are tried by the Rust and Python tests. */
+ * hands back. Checks in a session are in checking.c, lost blocks in restoring.c. The many inputs are tried by the Rust and Python
+ * tests. */
 #include "expect.h"
 
 /* 4 November 2026, lot A7, 500 microlitres, under algorithm 5, padding 4, 64 bits. */
@@ -170,9 +171,6 @@ static const sealed seals[3] = {
     {{5, 4, 64}, 16, 3, 14, {0x7F, 0x00, 0x0B, 5, 4, 64, 0xA4, 0x7A, 0x92, 0x99, 0xC7, 0xB8, 0x45, 0x6C}},
     {{2, 2, 64}, 32, 3, 14, {0x7F, 0x00, 0x0B, 2, 2, 64, 0x25, 0xBE, 0x21, 0xF5, 0xFD, 0xEE, 0x57, 0xF4}},
     {{1, 1, 12}, 16, 2, 8, {0x7F, 0x00, 0x05, 1, 1, 12, 0xA3, 0x30}}};
-
-/* K' of annex A; K is the key above. */
-static const uint8_t second[16] = {0x41, 0x49, 0xD2, 0xAD, 0xED, 0x94, 0x56, 0x68, 0x1E, 0xC8, 0xB5, 0x11, 0xD9, 0xE7, 0xEE, 0x04};
 
 static slipseal_slip read_sealed(slipseal_agreement agreement, size_t keys_len, const uint8_t *seal, size_t seal_len)
 {

@@ -40,6 +40,7 @@ __all__ = [
     "make",
     "read_slip",
     "read_slip_from",
+    "restore",
     "write_slip",
 ]
 
@@ -67,6 +68,7 @@ WORDS = {
     24: "there are bytes after the seal",
     25: "the slip names another algorithm, padding or m than agreed",
     30: "the seal is wrong",
+    41: "no such whole block",
 }
 
 
@@ -162,6 +164,38 @@ def check(agreement: Agreement, keys: Bytes, message: Bytes, tag: Bytes, bits: O
         _agreed(agreement), *_slice(keys), *_slice_and_bits(message, bits), *_slice(tag)
     )
     return _checked(answer)
+
+
+def restore(
+    agreement: Agreement, keys: Bytes, message: Bytes, block: int, tag: Bytes, bits: Optional[int] = None
+) -> bytes:
+    """Works a lost block out of the other bits of a message and its full tag, and gives the whole message with the block where it
+    was; the message that is handed in stays as it is. Blocks are whole ones of 128 bits, counted from 0 in the message's bits; the
+    block with the length, of padding 3, is not counted. What the block held has no influence. It is the only filling that the tag
+    fits: check then says yes.
+
+    A restored block is worth no more than the tag and the rest of the message. Every tag has exactly one filling: a false tag, or
+    an altered byte elsewhere in the message, restores to some block too, and check says yes to that as well. After a restoration
+    its yes is no evidence for any byte of the message.
+
+    Refused with the first that applies of 1 to 10, as check is, 3 also where m is not 128 (algorithm 7 always gets it); then 41
+    where there is no such whole block.
+
+    >>> key, agreement = bytes.fromhex("0123456789ABCDEFFEDCBA9876543210"), Agreement(5, 4, 128)
+    >>> tag = bytes.fromhex("692c437100f3b5ee2b8abcef373d990c")
+    >>> restore(agreement, key, b"This is the test________________", 1, tag)
+    b'This is the test message for mac'
+    >>> restore(agreement, key, b"This is the test________________", 2, tag)
+    Traceback (most recent call last):
+    slipseal.Refused: refused 41: no such whole block
+    """
+    given, length, bits = _slice_and_bits(message, bits)
+    room = (ctypes.c_uint8 * length).from_buffer_copy(given)
+    number = _library.slipseal_restore(
+        _agreed(agreement), *_slice(keys), room, length, bits, *_numbers(block), *_slice(tag)
+    )
+    _accept(number)
+    return bytes(room)
 
 
 class _Pieces:
@@ -562,6 +596,7 @@ def _loaded() -> ctypes.CDLL:
     for name, arguments, result in (
         ("make", [_Agreement] + lent + lent + [number] + room, _Answer),
         ("check", [_Agreement] + lent + lent + [number] + lent, _Answer),
+        ("restore", [_Agreement] + lent + room + [number] * 2 + lent, ctypes.c_uint64),
         ("start", [_Agreement] + lent + [number], _Step),
         ("start_check", [_Agreement] + lent + [number] + lent, _Step),
         ("piece", [_Record] + lent + [number], _Step),

@@ -1,7 +1,7 @@
 """Tests of slipseal.py: annex A in one call and in pieces, the runs R4 to R7 of the requirements, slips written and read, slips
 that name something else than was agreed, slips that come in odd lengths, every refusal with its words, records that no call handed
 out, and what Python alone can get wrong (numbers too large, other kinds of bytes and of files, what is no date, a "no" taken for
-true). Checks in a session and of files are in test_checking.py.
+true). Checks in a session and of files are in test_checking.py, lost blocks in test_restoring.py.
 
     python3 -m unittest          in this folder
 """

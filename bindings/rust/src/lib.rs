@@ -144,3 +144,40 @@ pub fn make<'a>(
 pub fn check(agreement: Agreement, keys: &[u8], message: &[u8], bits: usize, tag: &[u8]) -> Checked {
     Checked::of(raw::check(agreement, keys, message, bits, tag), |refusal| refusal)
 }
+
+/// Works a lost block out of the other bits of a message and its full tag, and puts it where it was. Blocks are whole ones of 128
+/// bits, counted from 0 in the message's first `bits` bits; the block with the length, of padding 3, is not counted. What the block
+/// held has no influence, and no other byte is touched. It is the only filling that the tag fits: [`check`] then says yes.
+///
+/// A restored block is worth no more than the tag and the rest of the message. Every tag has exactly one filling: a false tag, or
+/// an altered byte elsewhere in the message, restores to some block too, and [`check`] says yes to that as well. After a
+/// restoration its yes is no evidence for any byte of the message.
+///
+/// # Errors
+///
+/// The first that applies of 1 to 10, rising, as for [`check`], 3 also where m is not 128 (algorithm 7 always gets it); then 41
+/// where there is no such whole block. The message is then as before.
+///
+/// ```
+/// use slipseal::{make, restore, Agreement};
+///
+/// let (key, agreement) = ([7; 16], Agreement { algorithm: 5, padding: 4, m: 128 });
+/// let mut room = [0; 16];
+/// let tag = make(agreement, &key, b"Store below 8 degrees, dry, dark", 256, &mut room)?.tag;
+/// let mut label = *b"Store below 8 de________________";
+/// restore(agreement, &key, &mut label, 256, 1, tag)?;
+/// assert_eq!(&label, b"Store below 8 degrees, dry, dark");
+/// let refusal = restore(agreement, &key, &mut label, 256, 2, tag).unwrap_err();
+/// assert_eq!(refusal.to_string(), "refused 41: no such whole block");
+/// # Ok::<(), slipseal::Refusal>(())
+/// ```
+pub fn restore(
+    agreement: Agreement,
+    keys: &[u8],
+    message: &mut [u8],
+    bits: usize,
+    block: usize,
+    tag: &[u8],
+) -> Result<(), Refusal> {
+    Refusal::of(raw::restore(agreement, keys, message, bits, block, tag))
+}

@@ -85,6 +85,18 @@ extern "C" {
         tag_len: usize,
     ) -> Answer;
 
+    fn slipseal_restore(
+        agreement: Agreement,
+        keys: *const u8,
+        keys_len: usize,
+        message: *mut u8,
+        message_len: usize,
+        bits: usize,
+        block: usize,
+        tag: *const u8,
+        tag_len: usize,
+    ) -> u64;
+
     fn slipseal_start(agreement: Agreement, keys: *const u8, keys_len: usize, declared: usize) -> Step;
 
     fn slipseal_start_check(
@@ -144,6 +156,19 @@ pub fn check(agreement: Agreement, keys: &[u8], message: &[u8], bits: usize, tag
     let (k, k_len, s, s_len) = (keys.as_ptr(), keys.len(), message.as_ptr(), message.len());
     // SAFETY: each pointer comes from a slice and goes with its length.
     unsafe { slipseal_check(agreement, k, k_len, s, s_len, bits, tag.as_ptr(), tag.len()) }
+}
+
+pub fn restore(
+    agreement: Agreement,
+    keys: &[u8],
+    message: &mut [u8],
+    bits: usize,
+    block: usize,
+    tag: &[u8],
+) -> u64 {
+    let (k, k_len, s, s_len) = (keys.as_ptr(), keys.len(), message.as_mut_ptr(), message.len());
+    // SAFETY: each pointer comes from a slice and goes with its length; the message is lent to this call alone.
+    unsafe { slipseal_restore(agreement, k, k_len, s, s_len, bits, block, tag.as_ptr(), tag.len()) }
 }
 
 pub fn start(agreement: Agreement, keys: &[u8], declared: usize) -> Step {

@@ -45,6 +45,7 @@ impl Refusal {
             24 => "there are bytes after the seal",
             25 => "the slip names another algorithm, padding or m than agreed",
             30 => "the seal is wrong",
+            41 => "no such whole block",
             _ => "a number that this binding has no words for",
         }
     }

@@ -6,7 +6,7 @@ mod common;
 use std::collections::BTreeMap;
 
 use common::{agreed, key};
-use slipseal::{make, read_slip, Refusal, Session};
+use slipseal::{make, read_slip, restore, Refusal, Session};
 
 /// Number and words of each row of the card's tables.
 fn card() -> BTreeMap<u64, String> {
@@ -34,6 +34,7 @@ fn refusals() -> Vec<Refusal> {
         make(agreed(algorithm, padding, m), &zeros[..keys], &zeros[..bytes], bits, &mut [0; 8]).unwrap_err()
     });
     let four = make(agreed(4, 1, 64), &common::keys(), b"", 0, &mut [0; 8]).unwrap_err();
+    let lost = restore(agreed(1, 1, 128), &key(), &mut [], 0, 0, &[0; 16]).unwrap_err();
     let mut session = Session::start(agreed(1, 3, 64), &key(), 1).unwrap();
     let twelve = session.piece(&[0], 2).unwrap_err();
     session.piece(&[0], 1).unwrap();
@@ -49,7 +50,7 @@ fn refusals() -> Vec<Refusal> {
     let longer = read_slip(agreed(1, 1, 1), &key(), &[&good[..], &[0]].concat()).unwrap_err();
     let slips =
         [cut, changed(0, 2), changed(3, b'x'), changed(3, b'1'), longer, changed(28, 2), changed(29, 0x7F)];
-    makes.into_iter().chain([four, eleven, twelve]).chain(slips).collect()
+    makes.into_iter().chain([four, lost, eleven, twelve]).chain(slips).collect()
 }
 
 #[test]

@@ -1,4 +1,5 @@
 // The heart of every tag, shared by one call and sessions and by all ciphers: a chain is begun, fed lent slices of bits, and closed.
+// In `back` it is gone through from both ends, to a block that is lost.
 // A cipher is its number, and a block of its n bits stands in the first n of sixteen bytes: what stands after them is not looked at,
 // and what a public function gives out has zeros there. Round keys and the cipher's table are passed through, so that nothing is
 // computed twice within a call; the wide table is taken by `through` alone. Each block of a lent message is passed on as the part
@@ -6,7 +7,7 @@
 ghost use mathlib.Core.Path.{_≡_};
 ghost use mathlib.Core.Bool.{_&&_, not};
 ghost use mathlib.Core.List.{_++_};
-ghost use Prim.Native.Nat.{_+_, _*_, _%_, _≤_, _<_};
+ghost use Prim.Native.Nat.{_+_, _-_, _*_, _%_, _≤_, _<_};
 ghost use lib.ListN.{length, take, replicate};
 ghost use lib.Dec.{eqb};
 ghost use Rattle.bits.specs.Choice.{pick};
@@ -16,7 +17,9 @@ ghost use Rattle.cipher.specs.Ciphers.{cipherAt, tableAt, roundKeysAt, encAt, d
 ghost use Rattle.mac.specs.Padding.{methodAt, suffix, blockCount, complete};
 ghost use Rattle.mac.specs.Algorithm.{algorithmAt, row, Keys, step};
 ghost use Rattle.mac.specs.Session.{absorb, finish, opened};
-ghost use Rattle.chain.specs.Chain.{roundsBits, roundsOf, keyBlocks, Expanded, Each, widthOf, stepsOf, heldBits, begunAt, stateOf, holdOf, chained, lastState, markOf};
+ghost use Rattle.chain.specs.Chain.{roundsBits, roundsOf, keyBlocks, Expanded, Each, widthOf, stepsOf, heldBits, begunAt, stateOf, holdOf, walked, lastState, markOf};
+
+pub mod back;
 
 // The round keys of K, K' and K''.
 pub struct Rounds {
@@ -116,7 +119,19 @@ fn advance(t: &cipher::Table, k: Keyed, begun: bool, h: [u8; 16], part: &[u8]) -
     x
 }
 
-// Whole blocks after the first, each worked where it lies. The wide table is taken where there are any.
+// Which of so many blocks goes next where so many are left: they go from the first to the last, or backwards.
+fn next_block(backwards: bool, blocks: usize, left: usize) -> usize
+    requires { ⌜ (0 < left) × (left ≤ blocks) ⌝ }
+    ensures { λ r. ⌜ r ≡ pick backwards (left - 1) (blocks - left) ⌝ }
+{
+    if backwards {
+        return left - 1;
+    }
+    blocks - left
+}
+
+// Whole blocks, each worked where it lies, from the first to the last or backwards. The wide table is taken where there are any. Both
+// ways are one loop, so that what it calls stands in it alone, and the compiler puts it there.
 fn through(
     t: &cipher::Table,
     cipher: usize,
@@ -124,9 +139,10 @@ fn through(
     start: [u8; 16],
     bytes: &[u8],
     blocks: usize,
+    backwards: bool,
 ) -> [u8; 16]
     requires { ⌜ (now t ≡ tableAt cipher) × (blocks * cipherAt cipher .n ≤ 8 * length (now bytes)) ⌝ }
-    ensures { λ v. ⌜ take (cipherAt cipher .n) (bytesBits v) ≡ chained (cipherAt cipher .n) (encAt cipher (words rk)) blocks (take (cipherAt cipher .n) (bytesBits start)) (bytesBits (now (bytes .entry))) ⌝ }
+    ensures { λ v. ⌜ take (cipherAt cipher .n) (bytesBits v) ≡ walked backwards (cipherAt cipher .n) (encAt cipher (words rk)) blocks (take (cipherAt cipher .n) (bytesBits start)) (bytesBits (now (bytes .entry))) ⌝ }
 {
     if blocks == 0 {
         return start;
@@ -134,12 +150,11 @@ fn through(
     let w = cipher::wide(cipher);
     let size = cipher::width(cipher) / 8;
     let mut h = cipher::load(cipher, start);
-    let mut rest = bytes;
     let mut left = blocks;
     while 0 < left {
-        let next = cipher::absorb(t, &w, cipher, rk, h, &rest[..size]);
+        let at = next_block(backwards, blocks, left) * size;
+        let next = cipher::absorb(t, &w, cipher, rk, h, &bytes[at..at + size]);
         h = next;
-        rest = &rest[size..];
         left -= 1;
     }
     cipher::store(cipher, h)
@@ -228,7 +243,7 @@ pub fn feed(
     let blocks = (beyond - 1) / n;
     let done = blocks * n;
     let first = k.rounds.first;
-    let c = through(t, k.cipher, first, h, rest, blocks);
+    let c = through(t, k.cipher, first, h, rest, blocks, false);
     Hold {
         value: block::leftmost(c, n),
         held: waiting_block([0u8; 16], 0, &rest[done / 8..], beyond - done),
@@ -271,14 +286,13 @@ pub fn begin(t: &cipher::Table, k: Keyed, declared: u32) -> Hold
 
 // ---- the end
 
-// K1 where the message is complete, else K2.
-fn mask(t: &cipher::Table, cipher: usize, rk: [u32; 32], complete: bool) -> [u8; 16]
-    requires { ⌜ now t ≡ tableAt cipher ⌝ }
-    ensures { λ v. ⌜ take (cipherAt cipher .n) (bytesBits v) ≡ pick complete (double (cipherAt cipher .poly) (encAt cipher (words rk) (zeros (cipherAt cipher .n)))) (double (cipherAt cipher .poly) (double (cipherAt cipher .poly) (encAt cipher (words rk) (zeros (cipherAt cipher .n))))) ⌝ }
+// K1 where the message is complete, else K2, of the enciphered zeros.
+fn mask(cipher: usize, s: [u8; 16], complete: bool) -> [u8; 16]
+    ensures { λ v. ⌜ take (cipherAt cipher .n) (bytesBits v) ≡ pick complete (double (cipherAt cipher .poly) (take (cipherAt cipher .n) (bytesBits s))) (double (cipherAt cipher .poly) (double (cipherAt cipher .poly) (take (cipherAt cipher .n) (bytesBits s)))) ⌝ }
 {
     let n = cipher::width(cipher);
     let p = cipher::poly(cipher);
-    let k1 = block::double(enc(t, cipher, rk, [0u8; 16]), n, p);
+    let k1 = block::double(s, n, p);
     if complete {
         return k1;
     }
@@ -306,12 +320,8 @@ fn last(t: &cipher::Table, k: Keyed, complete: bool, z: [u8; 16]) -> [u8; 16]
     let first = k.rounds.first;
     let second = k.rounds.second;
     if algorithm == 5 {
-        return enc(
-            t,
-            cipher,
-            first,
-            block::xor(z, mask(t, cipher, first, complete)),
-        );
+        let s = enc(t, cipher, first, [0u8; 16]);
+        return enc(t, cipher, first, block::xor(z, mask(cipher, s, complete)));
     }
     if algorithm == 6 {
         return enc(t, cipher, second, z);

@@ -10,11 +10,11 @@ use lib.Seq.{length-take-le}
 use Rattle.bits.specs.Str.{Bits, bitsN, bytesBits, words, xorB, filled}
 use Rattle.bits.proofs.Packed.{length-bytesBits}
 use Rattle.bits.proofs.Strings.{length-xorB}
-use Rattle.sm4.specs.Cipher.{flat, four, encrypted, decrypted}
+use Rattle.sm4.specs.Cipher.{flat, four, dec, encrypted, decrypted}
 use Rattle.sm4.proofs.Laws.{long-words}
 use Rattle.sm4.proofs.Inverse.{length-flat, length-enc, length-dec, length-encrypted, length-decrypted, decrypted-encrypted, encrypted-decrypted}
 use Rattle.cipher.specs.Cipher.{Lawful}
-use Rattle.cipher.specs.Ciphers.{sm4, cipherAt, roundKeysAt, encAt, decAt, wordsBits}
+use Rattle.cipher.specs.Ciphers.{sm4, cipherAt, roundKeysAt, backwardsAt, encAt, decAt, wordsBits}
 use Rattle.cipher.proofs.Widths.{Width, take-filled, length-first}
 
 pub lawful-sm4 : Lawful sm4
@@ -73,6 +73,11 @@ module _ (c : ℕ) where
   decrypt-at k = refl
 
   module _ (rks : List Bits) where
+    -- there under the round keys backwards is back under them
+    pub enc-backwards : encAt c (backwardsAt c rks) ≡ decAt c rks
+    unfolding encAt decAt backwardsAt dec
+    enc-backwards = refl
+
     pub length-encAt : (w : Bits) → length w ≡ n → length (encAt c rks w) ≡ n
     unfolding cipherAt encAt
     length-encAt = length-enc rks

@@ -1,7 +1,7 @@
 -- The ciphers by number, and how code works with one: the round keys of a key once, then blocks under round keys, with tables lent.
 -- Whatever the cipher, round keys are 32 words, and tables of one length.
 -- Assumes nothing.
-use mathlib.Core.List.{List, flatMap}
+use mathlib.Core.List.{List, flatMap, reverse}
 use Prim.Native.Nat.{ℕ}
 use Rattle.bits.specs.Str.{Bits, bitsN}
 use Rattle.sm4.specs.Cipher.{enc, dec, roundKeys, encrypted, decrypted}
@@ -23,10 +23,14 @@ tableAt c = table
 unfoldable pub wideAt : ℕ → List ℕ
 wideAt c = wide
 
--- the round keys of a key, and a block under round keys, there and back
+-- the round keys of a key, and those under which enciphering is deciphering under them (`enc-backwards`)
 unfoldable pub roundKeysAt : ℕ → Bits → List Bits
 roundKeysAt c = roundKeys
 
+unfoldable pub backwardsAt : ℕ → List Bits → List Bits
+backwardsAt c = reverse
+
+-- a block under round keys, there and back
 unfoldable pub encAt : ℕ → List Bits → Bits → Bits
 encAt c = enc
 

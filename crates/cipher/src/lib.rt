@@ -6,7 +6,7 @@ ghost use mathlib.Core.Path.{_≡_};
 ghost use Prim.Native.Nat.{_*_};
 ghost use lib.ListN.{length, take};
 ghost use Rattle.bits.specs.Str.{bytesBits, words, xorB, filled};
-ghost use Rattle.cipher.specs.Ciphers.{cipherAt, tableAt, wideAt, roundKeysAt, encAt, decAt, wordsBits};
+ghost use Rattle.cipher.specs.Ciphers.{cipherAt, tableAt, wideAt, roundKeysAt, backwardsAt, encAt, decAt, wordsBits};
 
 pub const SM4: usize = 1;
 
@@ -54,6 +54,13 @@ pub fn schedule(t: &Table, cipher: usize, key: [u8; 16]) -> [u32; 32]
     ensures { λ r. ⌜ words r ≡ roundKeysAt cipher (take (cipherAt cipher .keyWidth) (bytesBits key)) ⌝ }
 {
     sm4::schedule(t, key)
+}
+
+// Round keys under which enciphering is deciphering under these.
+pub fn backwards(cipher: usize, rk: [u32; 32]) -> [u32; 32]
+    ensures { λ r. ⌜ words r ≡ backwardsAt cipher (words rk) ⌝ }
+{
+    sm4::backwards(rk)
 }
 
 // One block enciphered.

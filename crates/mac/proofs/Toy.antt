@@ -3,6 +3,7 @@
 -- Assumes nothing.
 use mathlib.Core.Path.{_≡_, sym, ap, _∙_}
 use mathlib.Core.List.{_++_}
+use Prim.Native.Nat.{ℕ, suc, _*_, _≤_}
 use native.Mathlib.Omega.{arith}
 use lib.ListN.{length, take, length-append}
 use lib.Seq.{length-take-le}
@@ -11,6 +12,9 @@ use Rattle.bits.proofs.Strings.{length-zeros, length-xorB, xorB-twice, length-r
 use Rattle.cipher.specs.Cipher.{Cipher, Lawful}
 use Rattle.mac.specs.Padding.{Method}
 use Rattle.mac.specs.Algorithm.{Algorithm, Keys}
+use Rattle.mac.specs.Lost.{lostBlock}
+use Rattle.mac.proofs.OneBlock.{Exactly, one-filling}
+use Rattle.mac.proofs.Lost.{lost-filling}
 use Rattle.mac.proofs.Promised.{Promised, promised}
 
 -- the first 64 bits of a key with zeros after it
@@ -52,7 +56,7 @@ module _ (k b : Bits) (h : length b ≡ 64) where
   back-and-there : toy .encrypt k (toy .decrypt k b) ≡ b
   back-and-there = ap (rotl 1) (xorB-twice (rotr 1 b) (mask k) (turned-long ∙ sym (length-mask k))) ∙ rotl-rotr 1 b (omega arith)
 
-lawful-toy : Lawful toy
+pub lawful-toy : Lawful toy
 lawful-toy = record {
   wide = omega arith;
   encrypt-long = there-long;
@@ -60,6 +64,11 @@ lawful-toy = record {
   decrypt-encrypt = there-and-back;
   encrypt-decrypt = back-and-there;
 }
+
+-- its lost blocks are worked out as well
+pub toy-lost : (A : Algorithm) (M : Method) (K : Keys) (j : ℕ) (x : Bits) (fits : suc j * 64 ≤ length x) (t : Bits) (ht : length t ≡ 64)
+    → lostBlock toy A M K j x t ≡ one-filling toy lawful-toy A M K j x fits t ht .filling
+toy-lost = lost-filling toy lawful-toy
 
 pub toy-promised : (A : Algorithm) (M : Method) (K : Keys) → Promised toy A M K
 toy-promised A M K = promised toy A M K lawful-toy

@@ -3,15 +3,13 @@
 -- `check-fresh`); the tag of an open record has m bits, so that the first bytes of a block that begins with it are its bytes
 -- (`room-is`, `judged-is`); the calls counted are those of the definition's list (`calls-listed`).
 -- Assumes nothing.
-use mathlib.Core.Path.{_≡_, refl, sym, ap, ap₂, _∙_, subst}
+use mathlib.Core.Path.{_≡_, refl, sym, ap, ap₂, _∙_}
 use mathlib.Core.Bool.{Bool, true, false}
 use mathlib.Core.List.{List, [], _∷_, _++_}
-use Prim.Native.Nat.{ℕ, _+_, _≤_, _<_}
-use native.Mathlib.Decide.{decLt}
+use Prim.Native.Nat.{ℕ, _+_, _≤_}
 use native.Mathlib.Omega.{arith}
 use borrow.Author.Tests.{ne-eqb}
-use lib.ListN.{List·getD-eq-default, length, take, drop, getD, length-take}
-use lib.Seq.{getD-take}
+use lib.ListN.{length, take, drop}
 use Rattle.bits.specs.Choice.{pick, _given_, firstOf}
 use Rattle.bits.specs.Str.{bytesBits, zeros, sameB}
 use Rattle.block.specs.Block.{storage, front, filledBlock}
@@ -26,7 +24,7 @@ use Rattle.mac.specs.Tag.{bytesFor, tagBytes}
 use Rattle.cipher.specs.Cipher.{Cipher}
 use Rattle.cipher.specs.Ciphers.{cipherAt}
 use Rattle.cipher.proofs.Laws.{sm4-width, width-at}
-use Rattle.mac.proofs.TagBytes.{tagBytes-block, tagBytes-fit}
+use Rattle.mac.proofs.TagBytes.{take-fits, tagBytes-block, tagBytes-fit}
 use Rattle.mac.proofs.Promised.{Promised, promised-at}
 use Rattle.keys.specs.Given.{keysOf, givenOf}
 use Rattle.settings.specs.Faults.{settingsFaults, settingsRefusal}
@@ -51,14 +49,6 @@ use Rattle.session.specs.Calls.{startFaults, refusedStart, startedBy, st
 -- the shape of what comes: an answer with a record
 abbrev pub of-step : Step → Outcome
 of-step r = r .answer
-
--- the first bytes of bytes are bytes
-take-fits : (n : ℕ) (xs : List ℕ) → ((i : ℕ) → getD xs i 0 < 256) → (i : ℕ) → getD (take n xs) i 0 < 256
-take-fits n xs fit i = go (decLt i n)
-  where
-    go : Dec (i < n) → getD (take n xs) i 0 < 256
-    go (yes l) = subst (λ (x : ℕ). x < 256) (sym (getD-take n xs i 0 l)) (fit i)
-    go (no l) = subst (λ (x : ℕ). x < 256) (sym (List·getD-eq-default (take n xs) 0 {n = i} (omega (arith, l, length-take n xs)))) (omega arith)
 
 -- ---- a start: u are the keys in use, c what the builder answered
 

@@ -2,5 +2,6 @@ pub mod Crossing
 pub mod Runs
 pub mod CheckRuns
 pub mod Slips
+pub mod Restores
 pub mod OddLengths
 pub mod Unique

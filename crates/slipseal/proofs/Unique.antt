@@ -7,6 +7,8 @@ use Rattle.slipseal.proofs.slipseal_make.Kinds as make-k
 use Rattle.slipseal.proofs.slipseal_make.Reads as slipseal-make
 use Rattle.slipseal.proofs.slipseal_check.Kinds as check-k
 use Rattle.slipseal.proofs.slipseal_check.Reads as slipseal-check
+use Rattle.slipseal.proofs.slipseal_restore.Kinds as restore-k
+use Rattle.slipseal.proofs.slipseal_restore.Reads as slipseal-restore
 use Rattle.slipseal.proofs.slipseal_start.Kinds as start-k
 use Rattle.slipseal.proofs.slipseal_start.Reads as slipseal-start
 use Rattle.slipseal.proofs.slipseal_start_check.Kinds as start-check-k
@@ -31,6 +33,9 @@ make-unique κs a g p x y = let e = same (x .ensures) (y .ensures) in (λ i. e i
 
 pub check-unique : Unique check-k.ps check-k.r slipseal-check.Asked slipseal-check.Learnt
 check-unique κs a g p x y = (same (x .ensures) (y .ensures), refl)
+
+pub restore-unique : Unique restore-k.ps restore-k.r slipseal-restore.Asked slipseal-restore.Learnt
+restore-unique κs a g p x y = let e = same (x .ensures) (y .ensures) in (λ i. e i .0, λ i. (tt, (tt, (e i .1, (tt, (tt, (tt, tt)))))))
 
 pub start-unique : Unique start-k.ps start-k.r slipseal-start.Asked slipseal-start.Learnt
 start-unique κs a g p x y = (same (x .ensures) (y .ensures), refl)

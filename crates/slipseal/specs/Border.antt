@@ -8,6 +8,8 @@ use Rattle.settings.specs.Answers.{numberOf, reportedCalls}
 use Rattle.settings.specs.declared.Outcome as settings
 use Rattle.settings.specs.declared.Outcome.the-variants.{Accepted, Made, Yes, No, Refused}
 use Rattle.settings.specs.declared.Agreement.{Agreement}
+use Rattle.tag.specs.declared.Restored.{Restored}
+use Rattle.tag.specs.Restore.{restoredNumber}
 use Rattle.chain.specs.declared.Hold.{Hold}
 use Rattle.session.specs.declared.Session as session
 use Rattle.session.specs.declared.Step as session-step
@@ -36,6 +38,10 @@ toldOf a = record { number = numberOf a; yes = yesOf a; calls = reportedCalls a 
 
 unfoldable pub toldMake : settings.Outcome × List ℕ → Answer × List ℕ
 toldMake r = (toldOf (r .0), r .1)
+
+-- a lost block's answer: 0, or the refusal's number
+unfoldable pub toldRestored : Restored × List ℕ → ℕ × List ℕ
+toldRestored r = (restoredNumber (r .0), r .1)
 
 -- what is read from a slip, in one row
 unfoldable pub toldSlip : slip.Slip → Slip

@@ -2,12 +2,13 @@
 // crosses as numbers and arrays; any content of it is answered, and a refusal hands back the very struct that came.
 ghost use mathlib.Core.Path.{_≡_};
 ghost use Rattle.tag.specs.OneCall.{makeOf, checkOf};
+ghost use Rattle.tag.specs.Restore.{restoreOf, restoredNumber};
 ghost use Rattle.session.specs.Calls.{startOf, startCheckOf, pieceOf, finishOf, finishCheckOf};
 ghost use Rattle.slip.specs.Slip.{readOf};
 ghost use Rattle.slip.specs.Gathering.{held, addOf};
 ghost use Rattle.slip.specs.Printed.{writeOf};
 ghost use Rattle.writing.specs.Writing.{said};
-ghost use Rattle.slipseal.specs.Border.{toldOf, toldMake, toldSlip, phaseFrom, phaseNumber, partNumber, purposeFrom, purposeNumber, inward, outward, handedOut, handedBack, finishedBack};
+ghost use Rattle.slipseal.specs.Border.{toldOf, toldMake, toldRestored, toldSlip, phaseFrom, phaseNumber, partNumber, purposeFrom, purposeNumber, inward, outward, handedOut, handedBack, finishedBack};
 
 // number: 0, or the refusal's. yes: 1 for a made tag, a good finish and a checked yes, else 0.
 #[repr(C)]
@@ -109,6 +110,30 @@ pub extern "C" fn slipseal_check(
     ensures { λ r. ⌜ r ≡ toldOf (checkOf agreement (now (keys .entry)) (now (message .entry)) bits (now (offered .entry))) ⌝ }
 {
     told(tag::check(agreement, keys, message, bits, offered))
+}
+
+// 0, or the refusal's number.
+fn restored_number(answer: tag::Restored) -> usize
+    ensures { λ r. ⌜ r ≡ restoredNumber answer ⌝ }
+{
+    match answer {
+        tag::Restored::Filled => 0,
+        tag::Restored::Refused(number) => number,
+    }
+}
+
+#[no_mangle]
+pub extern "C" fn slipseal_restore(
+    agreement: settings::Agreement,
+    keys: &[u8],
+    message: &mut [u8],
+    bits: usize,
+    block: usize,
+    offered: &[u8],
+) -> usize
+    ensures { λ r. ⌜ (r, now (message .exit)) ≡ toldRestored (restoreOf agreement (now (keys .entry)) (now (message .entry)) bits block (now (offered .entry))) ⌝ }
+{
+    restored_number(tag::restore(agreement, keys, message, bits, block, offered))
 }
 
 // ---- a session in and out

@@ -27,6 +27,8 @@ use Rattle.sm4.proofs.store.Kinds as store-k
 use Rattle.sm4.proofs.store.Reads as store
 use Rattle.sm4.proofs.absorb.Kinds as absorb-k
 use Rattle.sm4.proofs.absorb.Reads as absorb
+use Rattle.sm4.proofs.backwards.Kinds as backwards-k
+use Rattle.sm4.proofs.backwards.Reads as backwards
 use Rattle.sm4.proofs.schedule.Kinds as schedule-k
 use Rattle.sm4.proofs.schedule.Reads as schedule
 
@@ -64,6 +66,9 @@ encrypt-unique κs a g p x y = (same-bytes 16 (search needs) (search needs) (x .
 
 pub decrypt-unique : Unique decrypt-k.ps decrypt-k.r decrypt.Asked decrypt.Learnt
 decrypt-unique κs a g p x y = (same-bytes 16 (search needs) (search needs) (x .ensures) (y .ensures), refl)
+
+pub backwards-unique : Unique backwards-k.ps backwards-k.r backwards.Asked backwards.Learnt
+backwards-unique κs a g p x y = (same (x .ensures) (y .ensures), refl)
 
 pub schedule-unique : Unique schedule-k.ps schedule-k.r schedule.Asked schedule.Learnt
 schedule-unique κs a g p x y = (same-words 32 (search needs) (search needs) (x .ensures) (y .ensures), refl)

@@ -219,7 +219,8 @@ pub fn absorb(t: &Table, w: &Wide, rk: [u32; 32], h: [u32; 4], s: &[u8]) -> [u32
     wide_rounds(t, w, rk, xor(load(s), h))
 }
 
-fn backwards(rk: [u32; 32]) -> [u32; 32]
+// Round keys in the order that deciphers.
+pub fn backwards(rk: [u32; 32]) -> [u32; 32]
     ensures { λ r. ⌜ r ≡ reverse rk ⌝ }
 {
     let mut r = [0u32; 32];

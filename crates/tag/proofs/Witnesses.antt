@@ -1,22 +1,23 @@
 -- The hypotheses of demand 3 over the code can be met, for each algorithm and padding that has a full tag: a call of `make` with a
 -- message of 32 bytes, these keys and any room of sixteen bytes is accepted (`full-accepted`), and there are two such messages that
 -- differ, and only inside one block (`some-apart`, `some-differ`). Sessions accept whatever one call accepts (`accepting` of crate
--- session).
+-- session). Either block of such a message is restored out of any sixteen bytes (`restore-accepted`).
 -- Assumes nothing.
-use mathlib.Core.Path.{_≡_, refl, ap}
+use mathlib.Core.Path.{_≡_, refl, sym, ap, _∙_}
 use mathlib.Core.Bool.{Bool, true, false, not, _&&_, _||_, true≢false}
 use mathlib.Core.List.{List, _∷_, _++_, flatMap}
-use Prim.Native.Nat.{ℕ, _≤_}
+use Prim.Native.Nat.{ℕ, suc, _*_, _≤_, _<_}
 use native.Mathlib.Omega.{arith}
 use lib.Dec.{eqb}
 use lib.ListN.{length, getD, replicate}
 use borrow.Author.Tests.{eq-eqb, le-ltb}
-use Rattle.bits.specs.Choice.{pick}
+use Rattle.bits.specs.Choice.{pick, firstOf}
 use Rattle.bits.specs.Str.{Bits, bitsN, digit, bytesBits, sameB, zeros, halvesFlipped, everySecond}
-use Rattle.bits.proofs.Faults.{passed, done, clear-first}
+use Rattle.bits.proofs.Faults.{passed, done, clear-first, first-append-clear}
 use Rattle.block.specs.Block.{front}
 use Rattle.cipher.specs.Cipher.{Cipher}
 use Rattle.cipher.specs.Ciphers.{cipherAt}
+use Rattle.cipher.proofs.Laws.{sm4-width}
 use Rattle.mac.specs.declared.Row.{Row}
 use Rattle.mac.specs.Padding.{Method, method1, method2, method3, method4, methodAt, blockCount, prefix, suffix, gap, oneGap, complete}
 use Rattle.mac.specs.Algorithm.{Algorithm, alg1, alg2, alg3, alg4, alg5, alg6, alg7, alg8, algorithmAt, row}
@@ -27,10 +28,13 @@ use Rattle.keys.specs.Given.{keysOf}
 use Rattle.keys.specs.Faults.{keyBytes, keyBytesWrong, keysSame, keysWeak}
 use Rattle.settings.specs.Faults.{settingsFaults, algorithmWrong, paddingWrong, sizeWrong}
 use Rattle.settings.specs.declared.Agreement.{Agreement}
-use Rattle.message.specs.Faults.{messageFaults, lengthWrong, tooManyBits, tooFewBlocks, roomShort}
+use Rattle.message.specs.Faults.{messageFaults, lengthWrong, tooManyBits, tooFewBlocks, roomShort, tagLengthWrong}
 use Rattle.tag.specs.OneCall.{oneCallFaults}
 use Rattle.tag.proofs.Numbers.{makeFault}
+use Rattle.tag.specs.Restore.{noSuchBlock}
 use Rattle.tag.proofs.Full.{n}
+use Rattle.tag.proofs.RestoreOrder.{order-full}
+use Rattle.tag.proofs.RestoredBlock.{restoreFault, checking, numbered-checking}
 
 -- an agreement on full tags
 abbrev pub fullTags : ℕ → ℕ → Agreement
@@ -85,6 +89,27 @@ full-accepted a p e1 e2 e3 x room long wide =
     (passed refl
     (passed (le-ltb (blockCount (methodAt p) n 256) (row A .least) (omega (arith, two-blocks (methodAt p), least-two A)))
     (passed (le-ltb (length room) 16 wide) done))))))))))
+
+-- a tag of sixteen bytes is as long as it has to be
+full-length : (t : List ℕ) → length t ≡ 16 → tagLengthWrong n (length t) ≡ roomShort n (length t)
+unfolding tagLengthWrong roomShort bytesFor cipherAt
+full-length t e = ap not (eq-eqb (length t) 16 e) ∙ sym (le-ltb (length t) 16 (omega arith))
+
+pub restore-accepted : (a p : ℕ) → algorithmWrong a ≡ false → paddingWrong a p ≡ false → sizeWrong a n ≡ false
+    → (x t : List ℕ) → length x ≡ 32 → length t ≡ 16 → (j : ℕ) → j < 2 → restoreFault (fullTags a p) (someKeys a) x 256 j t ≡ 0
+unfolding noSuchBlock firstOf pick
+restore-accepted a p e1 e2 e3 x t long sixteen j low =
+    ap firstOf (order-full (fullTags a p) (someKeys a) (length x) 256 j (length t) refl)
+    ∙ first-append-clear (checking (fullTags a p) (someKeys a) x 256 j t (fullTags a p)) _ (numbered-checking (fullTags a p) (someKeys a) x 256 j t (fullTags a p)) checked
+    ∙ ap (λ (b : Bool). pick b 41 0) (le-ltb 256 (suc j * n) inside)
+  where
+    inside : suc j * n ≤ 256
+    inside = omega (arith, ap (λ (k : ℕ). suc j * k) sm4-width)
+
+    checked : firstOf (checking (fullTags a p) (someKeys a) x 256 j t (fullTags a p)) ≡ 0
+    checked =
+        ap (λ (b : Bool). firstOf (oneCallFaults (fullTags a p) (someKeys a) (length x) 256 b)) (full-length t sixteen)
+        ∙ full-accepted a p e1 e2 e3 x t long (omega arith)
 
 -- ---- two messages that differ in their first bit
 

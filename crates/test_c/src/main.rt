@@ -1,10 +1,12 @@
-// The functions for C, each called as C calls it: a tag is made and checked; a session is started, fed, tried too early, with too
-// little room and with the finish of a check, and finished; a struct whose phase is none of the three comes back as it came; a tag
-// is checked in a session, tried with the finish for making, and gets yes, and no where a spare bit is set; a struct whose purpose
-// is neither of the two comes back as it came; a slip is read under what was agreed, under another key and under another m; the
-// same slip is gathered from two reads, and read after the first, after both and with one byte more; two records with junk in
-// them, one with a forged count, are read and gathered on; the same slip is written, and refused a room that is a byte too small.
-// Every answer is known beforehand (docs/ARCHITECTURE.md, "Tests").
+// The functions for C, each called as C calls it: a tag is made and checked; each block of a message is lost and restored, one that
+// is not there or not whole is refused, as are a tag that is not a full one and one that is a byte short, and a false tag restores
+// to a block that a check says yes to; a session is started, fed, tried too early, with too little room and with the finish of a
+// check, and finished; a struct whose phase is none of the three comes back as it came; a tag is checked in a session, tried with
+// the finish for making, and gets yes, and no where a spare bit is set; a struct whose purpose is neither of the two comes back as
+// it came; a slip is read under what was agreed, under another key and under another m; the same slip is gathered from two reads,
+// and read after the first, after both and with one byte more; two records with junk in them, one with a forged count, are read and
+// gathered on; the same slip is written, and refused a room that is a byte too small. Every answer is known beforehand
+// (docs/ARCHITECTURE.md, "Tests").
 const KEYS: [u8; 32] = *b"\
     \x01\x23\x45\x67\x89\xab\xcd\xef\xfe\xdc\xba\x98\x76\x54\x32\x10\
     \x41\x49\xd2\xad\xed\x94\x56\x68\x1e\xc8\xb5\x11\xd9\xe7\xee\x04";
@@ -22,9 +24,24 @@ const JUNK: [u8; 80] = *b"\
     \xcc\xcc\xcc\xcc\xcc\xcc\xcc\xcc\xcc\xcc\xcc\xcc\xcc\
     \xdd\xdd\xdd\xdd";
 
+// The message of A.1 with one of its two blocks lost, and the G of it under padding 1.
+const FIRST_LOST: [u8; 32] = *b"???????????????? message for mac";
+
+const SECOND_LOST: [u8; 32] = *b"This is the test????????????????";
+
+const TAG: [u8; 16] = *b"\x16\xe0\x29\x04\xef\xb7\x65\xb7\x06\x45\x9c\x9e\xda\xbd\xb5\x19";
+
+// 2^57: 128 times as much is 2^64.
+const FAR: usize = 144115188075855872;
+
+// 2^64 - 1.
+const LAST: usize = 18446744073709551615;
+
 fn main() {
     let keys = KEYS;
     one_call(&keys[0..16]);
+    lost_blocks(&keys[0..16]);
+    not_full_tags(&keys[0..16]);
     in_session(&keys);
     check_in_session(&keys[0..16]);
     let slip = SLIP;
@@ -90,6 +107,63 @@ fn one_call(key: &[u8]) {
     tell(
         b"nine bytes:",
         slipseal::slipseal_check(agreed, key, b"abc", 24, &tag),
+    );
+}
+
+// The message of A.1, its first block or its second lost: each restored; the first worked out of a false tag; and what is refused.
+fn lost_blocks(key: &[u8]) {
+    let full = settings::Agreement {
+        algorithm: 1,
+        padding: 1,
+        m: 128,
+    };
+    let tag = TAG;
+    let other = [0xEEu8; 16];
+    restore(b"block 0:", full, key, FIRST_LOST, 256, 0, &tag);
+    restore(b"block 1:", full, key, SECOND_LOST, 256, 1, &tag);
+    restore(b"a false tag:", full, key, FIRST_LOST, 256, 0, &other);
+    restore(b"block 2:", full, key, SECOND_LOST, 256, 2, &tag);
+    restore(b"a part block:", full, key, SECOND_LOST, 255, 1, &tag);
+    restore(b"block 2^57:", full, key, FIRST_LOST, 256, FAR, &tag);
+    restore(b"the last number:", full, key, FIRST_LOST, 256, LAST, &tag);
+    restore(b"15 bytes:", full, key, FIRST_LOST, 256, 2, &tag[0..15]);
+}
+
+fn not_full_tags(key: &[u8]) {
+    let half = settings::Agreement {
+        algorithm: 1,
+        padding: 1,
+        m: 64,
+    };
+    let seven = settings::Agreement {
+        algorithm: 7,
+        padding: 4,
+        m: 128,
+    };
+    let tag = TAG;
+    restore(b"64 bits:", half, key, FIRST_LOST, 256, 0, &tag[0..8]);
+    restore(b"algorithm 7:", seven, key, FIRST_LOST, 256, 0, &tag);
+}
+
+// The answer, the message after it, and what a check then says.
+fn restore(
+    what: &[u8],
+    agreed: settings::Agreement,
+    key: &[u8],
+    message: [u8; 32],
+    bits: usize,
+    block: usize,
+    tag: &[u8],
+) {
+    let mut lent = message;
+    let answer = slipseal::slipseal_restore(agreed, key, &mut lent, bits, block, tag);
+    print(what);
+    number(answer);
+    print(b"\n");
+    bytes(&lent);
+    tell(
+        b"check:",
+        slipseal::slipseal_check(agreed, key, &lent, bits, tag),
     );
 }
 

@@ -3,6 +3,9 @@
 //
 //     make A P M KEYS MESSAGE BITS ROOM   made CALLS calls and the room's bytes; or refused N, and whether the room is untouched
 //     check A P M KEYS MESSAGE BITS TAG   yes CALLS calls, no CALLS calls, or refused N
+//     restore A P M KEYS MESSAGE BITS BLOCK TAG   filled and the message's bytes, then as check for this message; or refused N, and
+//                                         whether the message is untouched
+//     over A P M KEYS BITS BLOCK TAG      the same for 1,048,577 zero bytes, one more than the longest message has
 //     start A P M KEYS DECLARED           accepted or refused N
 //     piece BYTES BITS                    accepted or refused N
 //     zeros BYTES PIECES                  so many pieces of so many zero bytes, up to 65536: the last one's answer
@@ -40,6 +43,7 @@ mod bytewise;
 mod calls;
 mod gathered;
 mod halves;
+mod lost;
 mod sessions;
 mod slips;
 mod words;
@@ -48,9 +52,9 @@ mod writes;
 use words::print;
 
 // The commands, in the order of their numbers; 0 is a remark.
-const NAMES: [u8; 144] =
+const NAMES: [u8; 157] =
     *b"# make check halves slip changed prefixes firsts trickled record write start piece zeros finish forge same start_check \
-finish_check aim bytewise";
+finish_check aim bytewise restore over";
 
 pub(crate) const CHECK: usize = 2;
 
@@ -85,6 +89,8 @@ pub(crate) const FINISH_CHECK: usize = 18;
 pub(crate) const AIM: usize = 19;
 
 pub(crate) const BYTEWISE: usize = 20;
+
+pub(crate) const RESTORE: usize = 21;
 
 fn main() {
     let count = os::arg_count();
@@ -153,6 +159,10 @@ fn answered(kind: usize, line: &[u8], state: sessions::State) -> sessions::State
     }
     if kind == BYTEWISE {
         calls::command(kind, line);
+        return state;
+    }
+    if RESTORE <= kind {
+        lost::command(kind, line);
         return state;
     }
     sessions::command(kind, line, state)

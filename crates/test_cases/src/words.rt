@@ -33,10 +33,10 @@ pub(crate) fn word(line: &[u8], before: usize) -> &[u8] {
     &line[at..end]
 }
 
-// How many words stand before this one, of at most 21.
+// How many words stand before this one, of at most 23.
 pub(crate) fn place(line: &[u8], name: &[u8]) -> usize {
     let mut i = 0;
-    while i < 21 {
+    while i < 23 {
         if check::same(word(line, i), name) {
             return i;
         }

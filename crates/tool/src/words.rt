@@ -38,7 +38,7 @@ pub(crate) fn print_refusal(number: usize) {
     print(b"\n");
 }
 
-// A slip gets 1 to 6, 10 and 20 to 30, a certificate 1 to 6, 8 to 10 and 12; 7 and 11 are other calls' answers.
+// A slip gets 1 to 6, 10 and 20 to 30, a certificate 1 to 6, 8 to 10 and 12; 7, 11 and 41 are other calls' answers.
 fn print_meaning(number: usize) {
     if number < 7 {
         print_meaning_of_settings(number);
@@ -48,7 +48,11 @@ fn print_meaning(number: usize) {
         print_meaning_of_message(number);
         return;
     }
-    print_meaning_of_slip(number);
+    if number < 40 {
+        print_meaning_of_slip(number);
+        return;
+    }
+    print_meaning_of_block(number);
 }
 
 fn print_meaning_of_settings(number: usize) {
@@ -86,6 +90,13 @@ fn print_meaning_of_slip(number: usize) {
         24 => print(b"there are bytes after the seal"),
         25 => print(b"the slip names another algorithm, padding or m than agreed"),
         30 => print(b"the seal is wrong"),
+        _ => print_no_meaning(),
+    }
+}
+
+fn print_meaning_of_block(number: usize) {
+    match number {
+        41 => print(b"no such whole block"),
         _ => print_no_meaning(),
     }
 }

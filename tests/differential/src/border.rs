@@ -1,4 +1,5 @@
-//! The longest message, 8,388,608 bits, in one call and in sessions of pieces, made and checked, and one bit more.
+//! The longest message, 8,388,608 bits, in one call and in sessions of pieces, made and checked, and one bit more; and blocks of it
+//! lost and restored.
 //! The first case has its answers from the requirements (appendix, R7); the others are compared with the reference.
 
 use crate::draw::Settings;
@@ -67,6 +68,20 @@ pub fn case(r: &mut Random, run: &mut Run, [algorithm, padding]: [u64; 2]) {
         run.make(s.agreement, &s.keys, &bytes[..size], LIMIT + 1, room);
         run.check(s.agreement, &s.keys, &bytes[..size], LIMIT + 1, &tag);
     }
+
+    // The first, the last and any block lost; the next after the last, and one bit more.
+    let blocks = LIMIT / 128;
+    for block in [0, blocks - 1, r.below(blocks), blocks] {
+        let mut wet = bytes[..MOST].to_vec();
+        wet.chunks_exact_mut(16).skip(block as usize).take(1).for_each(|part| r.fill(part));
+        let room = Room::around(r, &wet);
+        let (number, left) = run.restore(s.agreement, &s.keys, room, LIMIT, block, &tag);
+        if number == 0 {
+            run.same(&(left == bytes[..MOST]), &true, || format!("block {block} of the longest message"));
+        }
+    }
+    let room = Room::around(r, &bytes);
+    run.restore(s.agreement, &s.keys, room, LIMIT + 1, 0, &tag);
 
     let (mut record, _) = run.start_check(s.agreement, &s.keys, LIMIT, &tag);
     let mut at = 0;

@@ -37,6 +37,16 @@ pub fn far_bits(r: &mut Random) -> u64 {
     }
 }
 
+/// The number of a block that no lent message has; times 128 or 16 it may wrap to that of one that it has.
+pub fn far_block(r: &mut Random) -> u64 {
+    match r.below(4) {
+        0 => one_of(r, &[LIMIT / 128, 1 << 32, 1 << 53, 1 << 57, 1 << 60, 1 << 61, 1 << 63]) + r.below(4),
+        1 => ((1 + r.below(127)) << 57) + r.below(8),
+        2 => u64::MAX - r.below(9),
+        _ => r.draw() >> r.below(40),
+    }
+}
+
 /// An agreement of which one number is another: by one, in a bit of the lowest byte, in those above it alone, or any other.
 pub fn another(r: &mut Random, Agreement { algorithm, padding, m }: Agreement) -> Agreement {
     let mut numbers = [algorithm, padding, m];

@@ -1,4 +1,4 @@
-//! The library's eleven functions, as the Rust binding calls them through C, answering in the reference's types. Nothing is judged
+//! The library's twelve functions, as the Rust binding calls them through C, answering in the reference's types. Nothing is judged
 //! here: what comes is handed on, and what comes back is handed back, field by field.
 
 use reference::gathered::Gathered;
@@ -40,6 +40,17 @@ pub fn make(agreement: Agreement, keys: &[u8], message: &[u8], bits: u64, room: 
 
 pub fn check(agreement: Agreement, keys: &[u8], message: &[u8], bits: u64, offered: &[u8]) -> Answer {
     answer(raw::check(agreed(agreement), keys, message, bits as usize, offered))
+}
+
+pub fn restore(
+    agreement: Agreement,
+    keys: &[u8],
+    message: &mut [u8],
+    bits: u64,
+    block: u64,
+    tag: &[u8],
+) -> u64 {
+    raw::restore(agreed(agreement), keys, message, bits as usize, block as usize, tag)
 }
 
 pub fn start(agreement: Agreement, keys: &[u8], declared: u64) -> (Record, Answer) {

@@ -1,8 +1,8 @@
-//! differential [SEED [COUNT]]: compares the proved library with the reference on COUNT pseudo-random cases, half of them one call,
-//! a quarter sessions that make or check a tag, a quarter slips, and on a quarter as many again, slips that are written; then on
-//! one slip of each algorithm and padding cut and changed everywhere, on the longest message, and on slips written with every m and
-//! at the borders of every field. Every slip is gathered from reads too. differential SEED KIND INDEX runs one case again (call,
-//! session, slip, write, every, border, rooms, values).
+//! differential [SEED [COUNT]]: compares the proved library with the reference on COUNT pseudo-random cases, half of them one call
+//! (a tag made, a tag checked, a lost block restored), a quarter sessions that make or check a tag, a quarter slips, and on a
+//! quarter as many again, slips that are written; then on one slip of each algorithm and padding cut and changed everywhere, on the
+//! longest message, and on slips written with every m and at the borders of every field. Every slip is gathered from reads too.
+//! differential SEED KIND INDEX runs one case again (call, session, slip, write, every, border, rooms, values).
 //! Ends with status 1 at the first difference, and where, in 10,000 cases or more, an answer that can arise came too seldom.
 
 use differential::run::Run;
@@ -17,12 +17,15 @@ const COUNT: u64 = 400_000;
 /// The answers to a slip that is read under what was agreed.
 const READ: &[&str] = &["0", "20", "21", "22", "23", "24", "25", "1", "2", "3", "4", "5", "10", "30"];
 
-/// The answers that can arise, of each function; a slip that was written is read back, one that was accepted written again, and one
-/// that was read is read under another agreement than it names; both are gathered from reads too. "11 other" is the answer to a
-/// finish of the other purpose, and "11 purpose" to a record that counts as closed for its purpose alone.
-const ANSWERS: [(&str, &[&str]); 15] = [
+/// The answers that can arise, of each function. A message of which a block was restored is checked. A slip that was written is
+/// read back, one that was accepted written again, and one that was read is read under another agreement than it names; both are
+/// gathered from reads too. "11 other" is the answer to a finish of the other purpose, and "11 purpose" to a record that counts as
+/// closed for its purpose alone.
+const ANSWERS: [(&str, &[&str]); 17] = [
     ("make", &["0", "1", "2", "3", "4", "5", "7", "8", "9", "10"]),
     ("check", &["yes", "no", "1", "2", "3", "4", "5", "7", "8", "9", "10"]),
+    ("restore", &["0", "1", "2", "3", "4", "5", "7", "8", "9", "10", "41"]),
+    ("restored", &["yes"]),
     ("start", &["0", "1", "2", "3", "4", "5", "8"]),
     ("start_check", &["0", "1", "2", "3", "4", "5", "8", "10"]),
     ("piece", &["0", "11", "11 purpose", "7", "8", "12"]),
@@ -118,6 +121,7 @@ fn whole(run: &mut Run, seed: u64, count: u64) -> bool {
     println!("checks in sessions: {yes} yes, {no} no, {other} refused with 11 for the other purpose");
     let other = run.often("finish", "11 other");
     println!("finishes that would make a tag: {other} refused with 11 for the other purpose");
+    println!("messages with a lost block restored, then checked with yes: {}", run.often("restored", "yes"));
     println!("slips gathered and answered like their bytes joined: {}", run.calls_of("gathered"));
     println!("forged records answered like the bytes they stand for: {}", run.calls_of("forged"));
     let (calls, seconds) = (run.calls(), begin.elapsed().as_secs_f64());

@@ -18,8 +18,9 @@ pub struct Run {
     /// Of each function, how often each number was answered; a checked "yes" and "no" stand apart, and so do a finish of the other
     /// purpose ("11 other") and a record that counts as closed for its purpose alone ("11 purpose"), and the slips that are read
     /// because they were written ("back"), written because they were read ("again"), and read under something else than they name
-    /// ("other"), and records that are read ("gathered") or were forged ("forged"). Of a record that is handed back ("gather"),
-    /// whether it is empty, holds a part of what fits, or is full.
+    /// ("other"), and records that are read ("gathered") or were forged ("forged"), and messages that are checked because a block
+    /// of them was restored ("restored"). Of a record that is handed back ("gather"), whether it is empty, holds a part of what
+    /// fits, or is full.
     pub answers: BTreeMap<&'static str, BTreeMap<String, u64>>,
     /// Sessions whose end and calls were those of one call: a tag made, or yes or no said.
     pub joined: BTreeMap<&'static str, u64>,
@@ -90,6 +91,14 @@ impl Room {
         Room { bytes }
     }
 
+    /// These bytes in the middle of a longer buffer.
+    pub fn around(r: &mut reference::cases::Random, bytes: &[u8]) -> Room {
+        let mut guards = [0; 2 * GUARD];
+        r.fill(&mut guards);
+        let (before, after) = guards.split_at(GUARD);
+        Room { bytes: [before, bytes, after].concat() }
+    }
+
     fn inner(&mut self) -> &mut [u8] {
         let end = self.bytes.len() - GUARD;
         &mut self.bytes[GUARD..end]
@@ -158,13 +167,60 @@ impl Run {
         bits: u64,
         tag: &[u8],
     ) -> Answer {
+        self.checking("check", agreement, keys, message, bits, tag)
+    }
+
+    /// Checks a message of which a block was restored out of this tag.
+    pub fn check_restored(
+        &mut self,
+        agreement: Agreement,
+        keys: &[u8],
+        message: &[u8],
+        bits: u64,
+        tag: &[u8],
+    ) -> Answer {
+        self.checking("restored", agreement, keys, message, bits, tag)
+    }
+
+    fn checking(
+        &mut self,
+        function: &'static str,
+        agreement: Agreement,
+        keys: &[u8],
+        message: &[u8],
+        bits: u64,
+        tag: &[u8],
+    ) -> Answer {
         let got = library::check(agreement, keys, message, bits, tag);
         let want = reference::check(agreement, keys, message, bits, tag);
         let line =
             || format!("check {} {} {} {bits} {}", words(agreement), word(keys), word(message), word(tag));
         self.same(&got, &want, line);
-        self.count("check", judged(want));
+        self.count(function, judged(want));
         want
+    }
+
+    /// The number, and the bytes of the message that is lent.
+    pub fn restore(
+        &mut self,
+        agreement: Agreement,
+        keys: &[u8],
+        message: Room,
+        bits: u64,
+        block: u64,
+        tag: &[u8],
+    ) -> (u64, Vec<u8>) {
+        let (mut ours, mut theirs) = (message.clone(), message.clone());
+        let got = library::restore(agreement, keys, ours.inner(), bits, block, tag);
+        let want = reference::restore(agreement, keys, theirs.inner(), bits, block, tag);
+        let line = || {
+            let lent = word(message.clone().inner());
+            format!("restore {} {} {lent} {bits} {block} {}", words(agreement), word(keys), word(tag))
+        };
+        self.same(&got, &want, line);
+        self.same(&ours.bytes, &theirs.bytes, || format!("{} (message)", line()));
+        self.count("restore", want.to_string());
+        (want, theirs.inner().to_vec())
     }
 
     pub fn start(&mut self, agreement: Agreement, keys: &[u8], declared: u64) -> (Record, Answer) {

@@ -58,6 +58,24 @@ pub fn settings_refusal(agreement: Agreement, keys: &[u8]) -> u64 {
     0
 }
 
+/// The first of refusals 1 to 10 that applies, or 0; `length_fits` holds a room or a tag to ⌈m/8⌉ bytes.
+pub fn call_refusal(
+    agreement: Agreement,
+    keys: &[u8],
+    message: &[u8],
+    bits: u64,
+    length_fits: impl Fn(usize) -> bool,
+) -> u64 {
+    let Agreement { algorithm, padding, m } = agreement;
+    match settings_refusal(agreement, keys) {
+        0 if message.len() as u64 != bytes_for(bits) => 7,
+        0 if bits > LIMIT => 8,
+        0 if algorithm == 4 && padding::q(padding, bits) < 2 => 9,
+        0 if !length_fits(bytes_for(m) as usize) => 10,
+        number => number,
+    }
+}
+
 /// The tag (its first ⌈m/8⌉ bytes), ⌈m/8⌉ and the calls, or the first refusal of 1 to 10.
 fn tag_of(
     agreement: Agreement,
@@ -66,20 +84,13 @@ fn tag_of(
     bits: u64,
     length_fits: impl Fn(usize) -> bool,
 ) -> Result<(Block, usize, u64), u64> {
-    let Agreement { algorithm, padding, m } = agreement;
-    let size = bytes_for(m) as usize;
-    let number = match settings_refusal(agreement, keys) {
-        0 if message.len() as u64 != bytes_for(bits) => 7,
-        0 if bits > LIMIT => 8,
-        0 if algorithm == 4 && padding::q(padding, bits) < 2 => 9,
-        0 if !length_fits(size) => 10,
-        number => number,
-    };
+    let number = call_refusal(agreement, keys, message, bits, length_fits);
     if number != 0 {
         return Err(number);
     }
+    let Agreement { algorithm, padding, m } = agreement;
     let (g, calls) = mac::output(algorithm, padding, keys, message, bits);
-    Ok((mac::truncate(algorithm, m, bits, &g), size, calls))
+    Ok((mac::truncate(algorithm, m, bits, &g), bytes_for(m) as usize, calls))
 }
 
 /// Makes a tag; an accepted call writes the first ⌈m/8⌉ bytes of `tag` and no others.

@@ -63,6 +63,9 @@ use crate::slip::Says;
 pub const FAR: [u64; 8] = [0, 9, 129, 257, (1 << 32) + 1, (1 << 32) + 64, (1 << 63) + 8, u64::MAX];
 pub const BITS: [u64; 8] =
     [8_388_608, 8_388_609, 1 << 32, (1 << 32) + 8, 1 << 63, u64::MAX - 7, u64::MAX - 6, u64::MAX];
+/// Numbers of blocks that no message has; times 128 or 16, or with one added before that, most of them wrap to small numbers.
+pub const BLOCKS: [u64; 8] =
+    [65_536, 1 << 32, (1 << 57) - 1, 1 << 57, (1 << 57) + 1, 1 << 60, 1 << 63, u64::MAX];
 pub const AMOUNTS: [u64; 8] = [0, 1, 255, 65_536, 999_999, 1_000_000, 1_000_001, 0xFFFF_FFFF];
 pub const EDGES: [u64; 8] = [0x00, 0x20, 0x21, 0x7E, 0x7F, 0x80, 0xA1, 0xFF];
 pub const WIDE: [u64; 8] = [8, 16, 24, 31, 32, 33, 48, 63];

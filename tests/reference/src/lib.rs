@@ -1,6 +1,6 @@
-//! Plain reference of document 01 and of 02 §1 to §3: SM4, the four paddings and the eight algorithms of GB/T 15852.1
-//! (approval draft), making and checking in one call and in sessions by pieces, and lot slips, read, gathered from reads, and
-//! written. Written from the documents alone, to produce expected outputs and to compare with.
+//! Plain reference of document 01 and of 02 §1 to §3 and §5: SM4, the four paddings and the eight algorithms of GB/T 15852.1
+//! (approval draft), making and checking in one call and in sessions by pieces, a lost block worked out, and lot slips, read,
+//! gathered from reads, and written. Written from the documents alone, to produce expected outputs and to compare with.
 //!
 //! Programs, for tests/make-runs: `commands` (generated command lines), `answer` (answers to command lines).
 #![allow(clippy::manual_is_multiple_of)]
@@ -8,6 +8,7 @@
 pub mod call;
 pub mod cases;
 pub mod gathered;
+pub mod lost;
 pub mod mac;
 pub mod padding;
 pub mod session;
@@ -17,6 +18,7 @@ pub mod sm4;
 mod tests;
 
 pub use call::{check, make, Agreement, Answer};
+pub use lost::restore;
 
 /// Upper case hex digits.
 pub fn hex(bytes: &[u8]) -> String {

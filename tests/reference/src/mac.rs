@@ -138,12 +138,53 @@ impl Engine {
                 self.e(K, &inner)
             }
             5 => {
-                let mask = double(&self.e(K, &[0; 16]));
-                let mask = if complete { mask } else { double(&mask) };
+                let mask = self.mask(complete);
                 self.e(K, &xor(&z, &mask))
             }
             6 => self.e(K1, &z),
             _ => self.e(K, &turn(complete, &z)),
+        }
+    }
+
+    /// What algorithm 5 puts onto the last block.
+    fn mask(&mut self, complete: bool) -> Block {
+        let mask = double(&self.e(K, &[0; 16]));
+        if complete {
+            mask
+        } else {
+            double(&mask)
+        }
+    }
+
+    /// H(i-1) xor D(i) from H(i) for i < q; `first` for i = 1.
+    pub fn undo_step(&mut self, first: bool, h: &Block) -> Block {
+        if first && self.algorithm == 4 {
+            let inner = self.d(K2, h);
+            self.d(K, &inner)
+        } else {
+            self.d(K, h)
+        }
+    }
+
+    /// H(q-1) xor D(q) from G.
+    pub fn undo_last(&mut self, complete: bool, g: &Block) -> Block {
+        match self.algorithm {
+            1 | 7 => self.d(K, g),
+            2 | 4 => {
+                let hq = self.d(K1, g);
+                self.d(K, &hq)
+            }
+            3 => {
+                let inner = self.d(K, g);
+                let hq = self.e(K1, &inner);
+                self.d(K, &hq)
+            }
+            5 => {
+                let mask = self.mask(complete);
+                xor(&self.d(K, g), &mask)
+            }
+            6 => self.d(K1, g),
+            _ => turn(!complete, &self.d(K, g)),
         }
     }
 }

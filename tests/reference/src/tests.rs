@@ -1,5 +1,6 @@
 //! Annex A of 000, the borders and runs of document 01, the appendix runs R3 to R7 of the requirements,
-//! the order of refusals, forged records, and slips, read, gathered from reads, and written. Sessions that check a tag: checks.rs.
+//! the order of refusals, forged records, and slips, read, gathered from reads, and written. Sessions that check a tag: checks.rs;
+//! a lost block: lost.rs.
 
 use crate::call::LIMIT;
 use crate::cases::{draw_slip, draw_write, Random, Settings};
@@ -9,6 +10,7 @@ use crate::slip::{self as slips, read, write, Says, Slip, Written};
 use crate::{check, hex, mac, make, padding, sm4, unhex, Agreement, Answer};
 
 mod checks;
+mod lost;
 
 const K: &str = "0123456789ABCDEFFEDCBA9876543210";
 const KK: &str = "0123456789ABCDEFFEDCBA98765432104149D2ADED9456681EC8B511D9E7EE04";

@@ -1,6 +1,7 @@
 //! answer: reads commands from standard input, one a line, and prints each with this reference's answer: LINE -> ANSWER.
 //!
 //!     make A P M KEYS MESSAGE BITS ROOM    check A P M KEYS MESSAGE BITS TAG
+//!     restore A P M KEYS MESSAGE BITS BLOCK TAG    over A P M KEYS BITS BLOCK TAG
 //!     start A P M KEYS DECLARED    piece BYTES BITS    zeros BYTES PIECES    finish ROOM    same
 //!     start_check A P M KEYS DECLARED TAG    finish_check    aim PURPOSE EXPECTED
 //!     forge PHASE PART A P M DECLARED TOTAL K K1 CHAIN HELD
@@ -12,10 +13,12 @@
 //! Words have one blank between them. Numbers are decimal, below 2^64. Bytes are hex digits, at most 4096 bytes, and - is no
 //! bytes. ROOM is a number up to 32, of `write` up to 96: the room's bytes are EE before the call. PHASE is 0 closed, 1 edge,
 //! 2 part (with PART); a forged record is for making and expects zeros. PURPOSE is 0 making, 1 checking, and EXPECTED up to 16
-//! bytes, zeros after them. `bytewise` feeds a session that checks the tag byte by byte, and answers as `check`; then it counts
-//! the tags with one bit turned that get no with the same calls, and answers for the message with its first bit turned. `write`
-//! answers `written LENGTH bytes CALLS calls` and all bytes of the room; or `refused N`, then `with values` where its length or its
-//! calls are not 0, then `untouched`, or `CHANGED` where a byte of the room is another.
+//! bytes, zeros after them. `restore` answers `filled` and all bytes of the message, then as `check` for this message; or
+//! `refused N`, then `untouched`, or `CHANGED` where a byte of the message is another; `over` is the same for 1,048,577 zero bytes,
+//! one more than the longest message has. `bytewise` feeds a session that checks the tag byte by byte, and answers as `check`; then
+//! it counts the tags with one bit turned that get no with the same calls, and answers for the message with its first bit turned.
+//! `write` answers `written LENGTH bytes CALLS calls` and all bytes of the room; or `refused N`, then `with values` where its
+//! length or its calls are not 0, then `untouched`, or `CHANGED` where a byte of the room is another.
 //! `firsts` takes each beginning of the slip as the first read, and counts the answers `alone` and `with the rest`; `trickled`
 //! takes the slip in reads of SIZE bytes, 1 to 4096. `record` takes up to 80 bytes, zeros after them, under any count, and answers
 //! `alone` and `with the read`, and with the record that this read leaves.
@@ -27,7 +30,7 @@ use reference::gathered::{self, Gathered};
 use reference::padding::bytes_for;
 use reference::session::{self, Record};
 use reference::slip::{self, Says, Tally, Written};
-use reference::{check, hex, make, unhex, Agreement, Answer};
+use reference::{check, hex, make, restore, unhex, Agreement, Answer};
 use std::io::Read;
 
 const FILL: u8 = 0xEE;
@@ -62,12 +65,16 @@ fn room(word: &str, most: u64) -> Option<Vec<u8>> {
     Some(vec![FILL; size as usize])
 }
 
-fn kept(room: &[u8]) -> &str {
-    if room.iter().all(|byte| *byte == FILL) {
+fn kept_if(same: bool) -> &'static str {
+    if same {
         "untouched"
     } else {
         "CHANGED"
     }
+}
+
+fn kept(room: &[u8]) -> &'static str {
+    kept_if(room.iter().all(|byte| *byte == FILL))
 }
 
 /// What a call that puts a tag into a room answers.
@@ -93,6 +100,15 @@ fn checked(answer: Answer) -> String {
         (0, 1) => format!("yes {} calls", answer.calls),
         (0, _) => format!("no {} calls", answer.calls),
         (number, _) => format!("refused {number}"),
+    }
+}
+
+/// What restoring a block answers, and what it leaves.
+fn restored(agreement: Agreement, keys: &[u8], message: &[u8], bits: u64, block: u64, tag: &[u8]) -> String {
+    let mut left = message.to_vec();
+    match restore(agreement, keys, &mut left, bits, block, tag) {
+        0 => format!("filled {} {}", hex(&left), checked(check(agreement, keys, &left, bits, tag))),
+        number => format!("refused {number} {}", kept_if(left == message)),
     }
 }
 
@@ -199,6 +215,14 @@ impl State {
                 let (keys, message, tag) = (bytes(keys)?, bytes(message)?, bytes(tag)?);
                 let answer = check(agreed(a, p, m)?, &keys, &message, number(bits)?, &tag);
                 Some(checked(answer))
+            }
+            ["restore", a, p, m, keys, message, bits, block, tag] => {
+                let (keys, message, tag) = (bytes(keys)?, bytes(message)?, bytes(tag)?);
+                Some(restored(agreed(a, p, m)?, &keys, &message, number(bits)?, number(block)?, &tag))
+            }
+            ["over", a, p, m, keys, bits, block, tag] => {
+                let (keys, tag, zeros) = (bytes(keys)?, bytes(tag)?, vec![0; 1_048_577]);
+                Some(restored(agreed(a, p, m)?, &keys, &zeros, number(bits)?, number(block)?, &tag))
             }
             ["halves", a, p, m, keys, message, calls, tag] => {
                 let agreement = agreed(a, p, m)?;

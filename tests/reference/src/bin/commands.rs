@@ -1,12 +1,17 @@
 //! commands call SEED COUNT: pseudo-random make and check lines for the bin `answer`, two for each of COUNT cases.
+//! commands restore SEED COUNT: pseudo-random restore lines, one for each of COUNT cases.
 //! commands slip SEED COUNT: pseudo-random slip lines, one for each of COUNT cases, by `draw_slip`.
 //! commands write SEED COUNT: pseudo-random write lines, one for each of COUNT cases, by `draw_write`.
 //!
 //! A call draws its settings by `Settings::draw`, a message of up to three blocks near their borders, and now and then a wrong
 //! slice length, a far bit count, a room or a tag of another size. The tag offered is the right one, where there is one, in one
 //! case of three with one bit turned, which may be a spare one.
+//!
+//! A restore draws its settings so too, but mostly with m = 128, and a message of up to five blocks. The block's number is mostly
+//! that of a whole block, which is then overwritten, or the next one, or far off; the tag is the right one of the message before
+//! that, where there is one, in one case of three any sixteen bytes, and now and then of another size.
 
-use reference::cases::{draw_slip, draw_write, Random, Settings, BITS};
+use reference::cases::{draw_slip, draw_write, Random, Settings, BITS, BLOCKS};
 use reference::padding::bytes_for;
 use reference::slip::Says;
 use reference::{hex, make, Agreement};
@@ -53,6 +58,37 @@ fn call(r: &mut Random) {
     println!("check {call} {}", word(&tag[..offered]));
 }
 
+fn restore(r: &mut Random) {
+    let mut s = Settings::draw(r);
+    if r.below(8) > 0 {
+        s.agreement.m = 128;
+    }
+    let bits = (128 * r.below(6) + r.below(17)).saturating_sub(8);
+    let mut message = vec![0; bytes_for(bits) as usize];
+    r.fill(&mut message);
+    let mut tag = [0; 24];
+    r.fill(&mut tag);
+    if r.below(3) > 0 {
+        make(s.agreement, s.keys(), &message, bits, &mut tag);
+    }
+    let whole = bits / 128;
+    let block = match r.below(10) {
+        0 => BLOCKS[r.below(8) as usize],
+        1 => whole + r.below(2),
+        _ => r.below(whole.max(1)),
+    };
+    if block < whole {
+        r.fill(&mut message[16 * block as usize..][..16]);
+    }
+    if r.below(24) == 0 {
+        message.push(0x80);
+    }
+    let offered = if r.below(2) == 0 { 16 } else { near(r, 16) };
+    let Agreement { algorithm, padding, m } = s.agreement;
+    let call = format!("{algorithm} {padding} {m} {} {} {bits}", word(s.keys()), word(&message));
+    println!("restore {call} {block} {}", word(&tag[..offered]));
+}
+
 fn slip(r: &mut Random) {
     let (slip, s) = draw_slip(r);
     let Agreement { algorithm, padding, m } = s.agreement;
@@ -72,12 +108,13 @@ fn main() {
     let number = |i: usize| words.get(i).and_then(|word| word.parse::<u64>().ok());
     let kind = match words.get(1).map(|word| word.as_str()) {
         Some("call") => Some(call as fn(&mut Random)),
+        Some("restore") => Some(restore as fn(&mut Random)),
         Some("slip") => Some(slip as fn(&mut Random)),
         Some("write") => Some(write as fn(&mut Random)),
         _ => None,
     };
     let (Some(kind), Some(seed), Some(count)) = (kind, number(2), number(3)) else {
-        return eprintln!("commands call|slip|write SEED COUNT");
+        return eprintln!("commands call|restore|slip|write SEED COUNT");
     };
     let mut random = Random::new(seed);
     for _ in 0..count {

@@ -1,0 +1,218 @@
+-- Document 02's words about a lost block (§5), first of the definition's answer, as the contract of `restore` has it: the number is that
+-- of the first fault (`restore-faults`), a refusal leaves the message as it was (`refused-of`), and where nothing is refused the bytes
+-- that were put in have the tag (`fits-tag`) and no others have (`only-filling`), so checking says yes (`checks-of`). What the block held
+-- has no influence (`whatever-of`).
+-- Assumes nothing.
+use mathlib.Core.Path.{_≡_, refl, sym, ap, _∙_, subst}
+use mathlib.Core.Bool.{Bool, true, false}
+use mathlib.Core.List.{List, _++_}
+use Prim.Native.Nat.{ℕ, suc, _+_, _*_, _≤_, _<_}
+use native.Mathlib.Omega.{arith}
+use lib.Dec.{eqb}
+use lib.ListN.{length, drop, getD}
+use lib.Seq.{getD-drop}
+use borrow.Author.Tests.{eqb-true, eqb-false, eq-eqb, ne-eqb, ltb-false, le-ltb, not-false}
+use Rattle.bits.specs.Choice.{pick, Fault, firstOf}
+use Rattle.bits.specs.Str.{Bits, bytesBits}
+use Rattle.bits.proofs.Faults.{Numbered, first-append, first-append-clear}
+use Rattle.bits.proofs.Packed.{length-bytesBits, bytesBits-inj}
+use Rattle.cipher.specs.Cipher.{Cipher}
+use Rattle.cipher.specs.Ciphers.{cipherAt}
+use Rattle.cipher.proofs.Laws.{lawful-at, width-at}
+use Rattle.mac.specs.Padding.{methodAt}
+use Rattle.mac.specs.Algorithm.{algorithmAt}
+use Rattle.mac.specs.Tag.{bitsOf, bytesFor, tagBytes}
+use Rattle.mac.proofs.OneBlock.{refilled, full, tag-long}
+use Rattle.mac.proofs.TagBytes.{take-fits, length-tagBytes, tagBytes-fit, tagBytes-bytesBits, length-bitsOf}
+use Rattle.mac.proofs.Lost.{lost-long, lost-fits, lost-only, lost-same}
+use Rattle.keys.specs.Given.{keysOf}
+use Rattle.settings.specs.Answers.{settingsOf}
+use Rattle.settings.specs.declared.Agreement.{Agreement}
+use Rattle.settings.specs.declared.Outcome.the-variants.{Yes}
+use Rattle.settings.proofs.Sound.{settings-numbered, sound-size}
+use Rattle.message.specs.Faults.{tagLengthWrong}
+use Rattle.message.proofs.Taken.{Taken, numbered, taken}
+use Rattle.tag.specs.declared.Restored.{Restored}
+use Rattle.tag.specs.declared.Restored.the-variants.{Filled, Refused}
+use Rattle.tag.specs.OneCall.{oneCallFaults, checkOf}
+use Rattle.tag.specs.Restore.{fullOnly, noSuchBlock, restoreFaults, lostAt, withBlock, restoredBy, restoreOf, restoredNumber}
+use Rattle.tag.proofs.Making.{settingsNo, unsound-first, accepted-message}
+use Rattle.tag.proofs.Numbers.{tagged, listed, checkFault, says-yes}
+use Rattle.tag.proofs.Full.{n, size, whole-bytes, tagged-full}
+use Rattle.tag.proofs.Restoring.{full-is}
+use Rattle.tag.proofs.RestoreOrder.{order-full}
+use Rattle.tag.proofs.BlockBytes.{Outside, bits-outside, own, own-long, with-twice, with-own}
+use Rattle.tag.proofs.OneBlockMade.{whole-back, length-withBlock, bits-withBlock}
+
+-- ---- the number, and a refusal
+
+module _ (A : Agreement) (s message : List ℕ) (l j : ℕ) (t : List ℕ) where
+  abbrev pub restoreFault : ℕ
+  restoreFault = firstOf (restoreFaults A s (length message) l j (length t))
+
+  pub restore-faults : restoredNumber (restoreOf A s message l j t .0) ≡ restoreFault
+  unfolding restoreOf restoredBy restoredNumber pick
+  restore-faults = go (eqb restoreFault 0) refl
+    where
+      go : (b : Bool) → eqb restoreFault 0 ≡ b → restoredNumber (pick {A = Restored × List ℕ} b (Filled, withBlock j message (tagBytes (lostAt (settingsOf A) (keysOf s) message l j t))) (Refused restoreFault, message) .0) ≡ restoreFault
+      go true e = sym (eqb-true restoreFault 0 e)
+      go false e = refl
+
+  pub refused-of : ¬ (restoreFault ≡ 0) → restoreOf A s message l j t ≡ (Refused restoreFault, message)
+  unfolding restoreOf restoredBy pick
+  refused-of h = rw (ne-eqb restoreFault 0 h)
+
+  pub filled-of : restoreFault ≡ 0 → restoreOf A s message l j t ≡ (Filled, withBlock j message (tagBytes (lostAt (settingsOf A) (keysOf s) message l j t)))
+  unfolding restoreOf restoredBy pick
+  filled-of e = rw (eq-eqb restoreFault 0 e)
+
+  -- ---- what an accepted call has
+
+  abbrev pub checking : Agreement → List Fault
+  checking B = oneCallFaults B s (length message) l (tagLengthWrong (B .m) (length t))
+
+  pub numbered-checking : (B : Agreement) → Numbered (checking B)
+  unfolding oneCallFaults
+  numbered-checking B = settings-numbered B (length s) (keysOf s) _ (numbered (settingsOf B) (length message) l _)
+
+  clear-checking : restoreFault ≡ 0 → firstOf (checking (fullOnly A)) ≡ 0
+  unfolding restoreFaults
+  clear-checking e = go (eqb (firstOf (checking (fullOnly A))) 0) refl
+    where
+      go : (b : Bool) → eqb (firstOf (checking (fullOnly A))) 0 ≡ b → firstOf (checking (fullOnly A)) ≡ 0
+      go true h = eqb-true _ 0 h
+      go false h = let some = eqb-false _ 0 h in absurd (some (sym (first-append (checking (fullOnly A)) _ some) ∙ e))
+
+  sound-settings : restoreFault ≡ 0 → settingsNo (fullOnly A) s (length message) l true ≡ 0
+  sound-settings e = go (eqb (settingsNo (fullOnly A) s (length message) l true) 0) refl
+    where
+      go : (b : Bool) → eqb (settingsNo (fullOnly A) s (length message) l true) 0 ≡ b → settingsNo (fullOnly A) s (length message) l true ≡ 0
+      go true h = eqb-true _ 0 h
+      go false h = let some = eqb-false _ 0 h in absurd (some (sym (unsound-first (fullOnly A) s (length message) l _ some) ∙ clear-checking e))
+
+  pub record Accepted : Type 0 where
+    pub whole : A .m ≡ n
+    pub checked : checkFault A s message l t ≡ 0
+    pub fits : suc j * n ≤ l
+
+  pub accepted : restoreFault ≡ 0 → Accepted
+  unfolding restoreFaults noSuchBlock firstOf pick
+  accepted e = record {
+    whole = both .0;
+    checked = ap (λ (B : Agreement). firstOf (checking B)) (sym (both .1)) ∙ clear-checking e;
+    fits = ltb-false l (suc j * n) (there _ (sym (first-append-clear (checking (fullOnly A)) _ (numbered-checking (fullOnly A)) (clear-checking e)) ∙ e));
+  }
+    where
+      both : (A .m ≡ n) × (fullOnly A ≡ A)
+      both = full-is A (sound-size (fullOnly A) (length s) (keysOf s) (sound-settings e) .0)
+
+      there : (b : Bool) → _≡_ {A = ℕ} (pick b 41 0) 0 → b ≡ false
+      there true h = absurd (omega arith)
+      there false h = refl
+
+  -- ---- the bytes that are put in
+
+  module _ (ok : Accepted) where
+    abbrev pub filling : List ℕ
+    filling = tagBytes (lostAt (settingsOf A) (keysOf s) message l j t)
+
+    facts : Taken (settingsOf A) (length message) l (tagLengthWrong (A .m) (length t))
+    facts = taken (settingsOf A) (length message) l _ (accepted-message A s (length message) l _ (ok .checked))
+
+    pub holds : l ≤ 8 * length message
+    unfolding bytesFor
+    holds = omega (arith, facts .long)
+
+    t-whole : length (bytesBits t) ≡ n
+    unfolding tagLengthWrong bytesFor
+    t-whole = let c = eqb-true (length t) (bytesFor (A .m)) (not-false _ (facts .room)) in omega (arith, length-bytesBits t, c, ok .whole, width-at 1)
+
+    in-bits : suc j * n ≤ length (bitsOf message l)
+    in-bits = omega (arith, ok .fits, length-bitsOf message l holds)
+
+    lost-whole : length (lostAt (settingsOf A) (keysOf s) message l j t) ≡ n
+    unfolding lostAt
+    lost-whole = lost-long (cipherAt 1) (lawful-at 1) (algorithmAt (A .algorithm)) (methodAt (A .padding)) (keysOf s) j (bitsOf message l) in-bits (bytesBits t) t-whole
+
+    pub filling-long : length filling ≡ size
+    filling-long = length-tagBytes _ ∙ ap bytesFor lost-whole
+
+    -- the tag of the message with bytes f in the block
+    abbrev with : List ℕ → Bits
+    with f = full (cipherAt 1) (algorithmAt (A .algorithm)) (methodAt (A .padding)) (keysOf s) (refilled n j (bitsOf message l) (bytesBits f))
+
+    tag-with : (f : List ℕ) → length f ≡ size → tagged A (keysOf s) (bitsOf (withBlock j message f) l) ≡ tagBytes (with f)
+    tag-with f h = ap (tagged A (keysOf s)) (bits-withBlock j l message (ok .fits) holds f h) ∙ tagged-full A (ok .whole) (keysOf s) _
+
+    pub fits-tag : ((i : ℕ) → getD t i 0 < 256) → tagged A (keysOf s) (bitsOf (withBlock j message filling) l) ≡ t
+    unfolding lostAt
+    fits-tag bytes =
+        tag-with filling filling-long
+        ∙ ap (λ (w : Bits). tagBytes (full (cipherAt 1) (algorithmAt (A .algorithm)) (methodAt (A .padding)) (keysOf s) (refilled n j (bitsOf message l) w))) (whole-back _ lost-whole)
+        ∙ ap tagBytes (lost-fits (cipherAt 1) (lawful-at 1) (algorithmAt (A .algorithm)) (methodAt (A .padding)) (keysOf s) j (bitsOf message l) in-bits (bytesBits t) t-whole)
+        ∙ tagBytes-bytesBits t bytes
+
+    pub only-filling : (f : List ℕ) → length f ≡ size → ((i : ℕ) → getD f i 0 < 256) → tagged A (keysOf s) (bitsOf (withBlock j message f) l) ≡ t → f ≡ filling
+    unfolding lostAt
+    only-filling f h bytes e =
+        bytesBits-inj f filling bytes (tagBytes-fit _) (h ∙ sym filling-long)
+        (lost-only (cipherAt 1) (lawful-at 1) (algorithmAt (A .algorithm)) (methodAt (A .padding)) (keysOf s) j (bitsOf message l) in-bits (bytesBits t) (bytesBits f) (omega (arith, length-bytesBits f, whole-bytes))
+        (sym (whole-back (with f) (tag-long (cipherAt 1) (lawful-at 1) (algorithmAt (A .algorithm)) (methodAt (A .padding)) (keysOf s) n _ (omega arith))) ∙ ap bytesBits (sym (tag-with f h) ∙ e))
+        ∙ sym (whole-back _ lost-whole))
+
+    -- any filling is checked as the message was
+    pub checks-like : (f : List ℕ) → length f ≡ size → checkFault A s (withBlock j message f) l t ≡ 0
+    checks-like f h = ap (λ (c : ℕ). firstOf (oneCallFaults A s c l (tagLengthWrong (A .m) (length t)))) (length-withBlock j l message (ok .fits) holds f h) ∙ ok .checked
+
+    pub checks-of : ((i : ℕ) → getD t i 0 < 256) → checkOf A s (withBlock j message filling) l t ≡ Yes (listed A (keysOf s) (bitsOf (withBlock j message filling) l))
+    checks-of bytes = says-yes A s (withBlock j message filling) l t (checks-like filling filling-long) (sym (fits-tag bytes))
+
+-- ---- what the block held has no influence
+
+module _ (A : Agreement) (s x y : List ℕ) (l j : ℕ) (t : List ℕ) (h : Outside j x y) where
+  pub same-fault : restoreFault A s x l j t ≡ restoreFault A s y l j t
+  same-fault = ap (λ (c : ℕ). firstOf (restoreFaults A s c l j (length t))) (h .same-length)
+
+  pub whatever-of : restoreFault A s x l j t ≡ 0 → restoreOf A s x l j t ≡ restoreOf A s y l j t
+  unfolding lostAt
+  whatever-of e =
+      let ok = accepted A s x l j t e in
+      filled-of A s x l j t e
+      ∙ (λ i. (Filled, h .same-before i ++ (tagBytes (lost-same (cipherAt 1) (lawful-at 1) (algorithmAt (A .algorithm)) (methodAt (A .padding)) (keysOf s) j (bitsOf x l) (bitsOf y l) (bits-outside j l x y h (holds A s x l j t ok) (ok .fits)) (bytesBits t) i) ++ h .same-after i)))
+      ∙ sym (filled-of A s y l j t (sym same-fault ∙ e))
+
+-- ---- a block that was lost comes back
+
+-- x is checked, and the bytes f stand in the place of its block j
+module _ (A : Agreement) (s x : List ℕ) (l j : ℕ) (t f : List ℕ) (whole : A .m ≡ n) (checked : checkFault A s x l t ≡ 0) (fits : suc j * n ≤ l) (hf : length f ≡ size) where
+  x-holds : l ≤ 8 * length x
+  unfolding bytesFor
+  x-holds = omega (arith, taken (settingsOf A) (length x) l _ (accepted-message A s (length x) l _ checked) .long)
+
+  pub back-accepted : restoreFault A s (withBlock j x f) l j t ≡ 0
+  unfolding noSuchBlock firstOf pick
+  back-accepted =
+      ap firstOf (order-full A s (length (withBlock j x f)) l j (length t) whole)
+      ∙ first-append-clear (checking A s (withBlock j x f) l j t A) _ (numbered-checking A s (withBlock j x f) l j t A) same
+      ∙ ap (λ (b : Bool). pick b 41 0) (le-ltb l (suc j * n) fits)
+    where
+      same : firstOf (checking A s (withBlock j x f) l j t A) ≡ 0
+      same = ap (λ (c : ℕ). firstOf (oneCallFaults A s c l (tagLengthWrong (A .m) (length t)))) (length-withBlock j l x fits x-holds f hf) ∙ checked
+
+  pub back-of : ((i : ℕ) → getD x i 0 < 256) → tagged A (keysOf s) (bitsOf x l) ≡ t → restoreOf A s (withBlock j x f) l j t ≡ (Filled, x)
+  back-of bytes e =
+      filled-of A s (withBlock j x f) l j t back-accepted
+      ∙ ap (λ (b : List ℕ). (Filled, withBlock j (withBlock j x f) b)) (sym (only-filling A s (withBlock j x f) l j t ok block (own-long j l x fits x-holds) block-bytes (ap (λ (m : List ℕ). tagged A (keysOf s) (bitsOf m l)) again ∙ e)))
+      ∙ ap (λ (m : List ℕ). (Filled, m)) again
+    where
+      ok : Accepted A s (withBlock j x f) l j t
+      ok = accepted A s (withBlock j x f) l j t back-accepted
+
+      block : List ℕ
+      block = own j l x fits x-holds
+
+      again : withBlock j (withBlock j x f) block ≡ x
+      again = with-twice j l x fits x-holds f block hf ∙ with-own j l x fits x-holds
+
+      block-bytes : (i : ℕ) → getD block i 0 < 256
+      block-bytes = take-fits size (drop (j * size) x) (λ i. subst (λ (v : ℕ). v < 256) (sym (getD-drop (j * size) x i 0)) (bytes (j * size + i)))
