@@ -11,12 +11,10 @@
 -- They say nothing about whether the message is the sender's: every tag has a filling (`one-filling-made`).
 -- Assumes nothing.
 use mathlib.Core.Path.{_≡_, refl, sym, ap, _∙_, subst}
-use mathlib.Core.Bool.{Bool, true, false}
+use mathlib.Core.Bool.{true}
 use mathlib.Core.List.{List, [], _∷_}
 use Prim.Native.Nat.{ℕ, suc, _*_, _≤_, _<_}
-use lib.Dec.{eqb}
 use lib.ListN.{length, getD}
-use borrow.Author.Tests.{eqb-true, eqb-false}
 use contract.Lifetimes.{Lfts}
 use borrow.Fn.Kinds.{Dens}
 use Rattle.bits.specs.Choice.{_given_, firstOf}
@@ -28,14 +26,14 @@ use Rattle.settings.specs.Answers.{numberOf}
 use Rattle.settings.specs.declared.Agreement.{Agreement}
 use Rattle.settings.specs.declared.Outcome.the-variants.{Yes}
 use Rattle.tag.specs.declared.Restored.{Restored}
-use Rattle.tag.specs.declared.Restored.the-variants.{Filled, Refused}
+use Rattle.tag.specs.declared.Restored.the-variants.{Filled}
 use Rattle.tag.specs.OneCall.{checkOf}
 use Rattle.tag.specs.Restore.{withBlock, restoreOf, restoredNumber}
-use Rattle.tag.proofs.Numbers.{tagged, listed, Checking, CheckAt, checkFault, check-faults, yes-of, yes-alone}
+use Rattle.tag.proofs.Numbers.{listed, Checking, CheckAt, check-faults, yes-of}
 use Rattle.tag.proofs.Full.{n, size}
 use Rattle.tag.proofs.RestoreOrder.{order-seven}
-use Rattle.tag.proofs.RestoredBlock.{restoreFault, restore-faults, holds, refused-of, filled-of, Accepted, accepted, filling, filling-long, only-filling, checks-of, same-fault, whatever-of, back-of}
-use Rattle.tag.proofs.BlockBytes.{Outside, outside-with}
+use Rattle.tag.proofs.RestoredBlock.{restoreFault, restore-faults, refused-of, left, left-outside, left-checks, left-only, same-result, whatever-of, back-of}
+use Rattle.tag.proofs.BlockBytes.{Outside}
 use Rattle.tag.proofs.check.Kinds as check-k
 use Rattle.tag.proofs.restore.Kinds as restore-k
 use Rattle.tag.proofs.restore.Reads as restore
@@ -47,6 +45,10 @@ zero-filled = refl
 yes-number : (k : ℕ) → numberOf (Yes k) ≡ 0
 unfolding numberOf
 yes-number k = refl
+
+-- what `check` answers there
+check-at : (λs : Lfts 3) (b : Dens λs check-k.ps) (z : Checking λs b) {A : Agreement} {s m : List ℕ} {l : ℕ} {t : List ℕ} → CheckAt λs b A s m l t → z .result ≡ checkOf A s m l t
+check-at λs b z at = z .ensures ∙ (λ i. checkOf (at .agreed i) (at .keyed i) (at .lent i) (at .counted i) (at .offered i))
 
 abbrev pub Restoring : (κs : Lfts 3) → Dens κs restore-k.ps → Type 0
 Restoring κs a = Allowed restore-k.ps restore-k.r restore.Learnt κs a
@@ -83,43 +85,26 @@ module _ (κs : Lfts 3) (a : Dens κs restore-k.ps) (x : Restoring κs a) where
   pub restore-untouched : ¬ (restoredNumber (x .result) ≡ 0) → messageLeft ≡ message
   restore-untouched h = ap (λ (r : Restored × List ℕ). r .1) (x .ensures ∙ refused-of A s message l j t (λ e. h (restore-number ∙ e)))
 
+  left-is : messageLeft ≡ left A s message l j t
+  left-is = ap (λ (r : Restored × List ℕ). r .1) (x .ensures)
+
+  pub restore-outside : Outside j messageLeft message
+  restore-outside = subst (λ (m : List ℕ). Outside j m message) (sym left-is) (left-outside A s message l j t)
+
   module _ (filled : x .result ≡ Filled) where
     none : fault ≡ 0
-    unfolding restoredNumber
-    none = sym restore-number ∙ ap restoredNumber filled
-
-    ok : Accepted A s message l j t
-    ok = accepted A s message l j t none
-
-    left-is : messageLeft ≡ withBlock j message (filling A s message l j t ok)
-    left-is = ap (λ (r : Restored × List ℕ). r .1) (x .ensures ∙ filled-of A s message l j t none)
+    none = sym restore-number ∙ ap restoredNumber filled ∙ zero-filled
 
     pub restore-checks : ((i : ℕ) → getD t i 0 < 256) → (λs : Lfts 3) (b : Dens λs check-k.ps) (z : Checking λs b) → CheckAt λs b A s messageLeft l t
         → z .result ≡ Yes (listed A (keysOf s) (bitsOf messageLeft l))
     restore-checks bytes λs b z at =
-        z .ensures ∙ (λ i. checkOf (at .agreed i) (at .keyed i) ((at .lent ∙ left-is) i) (at .counted i) (at .offered i))
-        ∙ checks-of A s message l j t ok bytes ∙ ap (λ (m : List ℕ). Yes (listed A (keysOf s) (bitsOf m l))) (sym left-is)
+        check-at λs b z at ∙ ap (λ (m : List ℕ). checkOf A s m l t) left-is
+        ∙ left-checks A s message l j t none bytes ∙ ap (λ (m : List ℕ). Yes (listed A (keysOf s) (bitsOf m l))) (sym left-is)
 
     pub restore-only : (f : List ℕ) → length f ≡ size → ((i : ℕ) → getD f i 0 < 256) → (λs : Lfts 3) (b : Dens λs check-k.ps) (z : Checking λs b)
         → CheckAt λs b A s (withBlock j message f) l t → (k : ℕ) → z .result ≡ Yes k → withBlock j message f ≡ messageLeft
-    restore-only f long bytes λs b z at k yes-said =
-        ap (withBlock j message) (only-filling A s message l j t ok f long bytes (sym (sym (at .offered) ∙ yes-alone λs b z k yes-said ∙ (λ i. tagged (at .agreed i) (keysOf (at .keyed i)) (bitsOf (at .lent i) (at .counted i))))))
-        ∙ sym left-is
-
-  -- ---- outside the block
-
-  pub restore-outside : Outside j messageLeft message
-  restore-outside = go (eqb fault 0) refl
-    where
-      go : (b : Bool) → eqb fault 0 ≡ b → Outside j messageLeft message
-      go true e =
-          let none = eqb-true fault 0 e in
-          let ok = accepted A s message l j t none in
-          subst (λ (m : List ℕ). Outside j m message) (sym (ap (λ (r : Restored × List ℕ). r .1) (x .ensures ∙ filled-of A s message l j t none)))
-          (outside-with j l message (ok .fits) (holds A s message l j t ok) (filling A s message l j t ok) (filling-long A s message l j t ok))
-      go false e =
-          subst (λ (m : List ℕ). Outside j m message) (sym (ap (λ (r : Restored × List ℕ). r .1) (x .ensures ∙ refused-of A s message l j t (eqb-false fault 0 e))))
-          (record { same-length = refl; same-before = refl; same-after = refl })
+    restore-only f long bytes λs b z at k said =
+        left-only A s message l j t none f long bytes (yes-of A s (withBlock j message f) l t k (sym (check-at λs b z at) ∙ said)) ∙ sym left-is
 
   pub restore-seven : A .algorithm ≡ 7 → restoredNumber (x .result) ≡ firstOf (2 given paddingWrong 7 (A .padding) ∷ 3 given true ∷ [])
   restore-seven e = restore-number ∙ order-seven A s (length message) l j (length t) e
@@ -139,17 +124,6 @@ module _ (κs : Lfts 3) (a : Dens κs restore-k.ps) (x : Restoring κs a) {A : A
   answer-at : (x .result, messageLeft κs a x) ≡ restoreOf A s bytes l j t
   answer-at = x .ensures ∙ (λ i. restoreOf (at .agreed i) (at .keyed i) (at .lent i) (at .counted i) (at .numbered i) (at .offered i))
 
-module _ (A : Agreement) (s x y : List ℕ) (l j : ℕ) (t : List ℕ) (h : Outside j x y) where
-  same-result : restoreOf A s x l j t .0 ≡ restoreOf A s y l j t .0
-  same-result = go (eqb (restoreFault A s x l j t) 0) refl
-    where
-      go : (b : Bool) → eqb (restoreFault A s x l j t) 0 ≡ b → restoreOf A s x l j t .0 ≡ restoreOf A s y l j t .0
-      go true e = ap (λ (r : Restored × List ℕ). r .0) (whatever-of A s x y l j t h (eqb-true _ 0 e))
-      go false e =
-          let some = eqb-false (restoreFault A s x l j t) 0 e in
-          ap (λ (r : Restored × List ℕ). r .0) (refused-of A s x l j t some) ∙ ap Refused (same-fault A s x y l j t h)
-          ∙ sym (ap (λ (r : Restored × List ℕ). r .0) (refused-of A s y l j t (λ z. some (same-fault A s x y l j t h ∙ z))))
-
 module _ (κs : Lfts 3) (a : Dens κs restore-k.ps) (x : Restoring κs a) (λs : Lfts 3) (b : Dens λs restore-k.ps) (y : Restoring λs b)
     {A : Agreement} {s u v : List ℕ} {l j : ℕ} {t : List ℕ} (at : RestoreAt κs a A s u l j t) (bt : RestoreAt λs b A s v l j t) (h : Outside j u v) where
   pub restore-whatever : (x .result ≡ y .result) × (x .result ≡ Filled → messageLeft κs a x ≡ messageLeft λs b y)
@@ -166,11 +140,7 @@ module _ (λs : Lfts 3) (b : Dens λs check-k.ps) (z : Checking λs b) (κs : Lf
   pub restore-back : (k : ℕ) → z .result ≡ Yes k → A .m ≡ n → suc j * n ≤ l → length f ≡ size → ((i : ℕ) → getD m i 0 < 256)
       → (x .result ≡ Filled) × (messageLeft κs a x ≡ m)
   restore-back k said whole fits hf bytes =
-      let e = answer-at κs a x at ∙ back-of A s m l j t f whole checked fits hf bytes (sym (yes-of A s m l t k told)) in
+      let told = sym (check-at λs b z bt) ∙ said in
+      let none = sym (check-faults A s m l t) ∙ ap numberOf told ∙ yes-number k in
+      let e = answer-at κs a x at ∙ back-of A s m l j t f whole none fits hf bytes (sym (yes-of A s m l t k told)) in
       (ap (λ (r : Restored × List ℕ). r .0) e, ap (λ (r : Restored × List ℕ). r .1) e)
-    where
-      told : checkOf A s m l t ≡ Yes k
-      told = sym (z .ensures ∙ (λ i. checkOf (bt .agreed i) (bt .keyed i) (bt .lent i) (bt .counted i) (bt .offered i))) ∙ said
-
-      checked : checkFault A s m l t ≡ 0
-      checked = sym (check-faults A s m l t) ∙ ap numberOf told ∙ yes-number k

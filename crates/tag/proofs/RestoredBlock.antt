@@ -1,7 +1,8 @@
 -- Document 02's words about a lost block (§5), first of the definition's answer, as the contract of `restore` has it: the number is that
 -- of the first fault (`restore-faults`), a refusal leaves the message as it was (`refused-of`), and where nothing is refused the bytes
--- that were put in have the tag (`fits-tag`) and no others have (`only-filling`), so checking says yes (`checks-of`). What the block held
--- has no influence (`whatever-of`).
+-- that were put in have the tag (`fits-tag`) and no others have (`only-filling`). So of the message that a call leaves (`left-outside`,
+-- `left-checks`, `left-only`). What the block held has no influence (`same-result`, `whatever-of`), and a block that was lost comes back
+-- (`back-of`). The answers of the code, in Rattle and through C, are these by their contracts.
 -- Assumes nothing.
 use mathlib.Core.Path.{_≡_, refl, sym, ap, _∙_, subst}
 use mathlib.Core.Bool.{Bool, true, false}
@@ -41,7 +42,7 @@ use Rattle.tag.proofs.Numbers.{tagged, listed, checkFault, says-yes}
 use Rattle.tag.proofs.Full.{n, size, whole-bytes, tagged-full}
 use Rattle.tag.proofs.Restoring.{full-is}
 use Rattle.tag.proofs.RestoreOrder.{order-full}
-use Rattle.tag.proofs.BlockBytes.{Outside, bits-outside, own, own-long, with-twice, with-own}
+use Rattle.tag.proofs.BlockBytes.{Outside, bits-outside, outside-with, own, own-long, with-twice, with-own}
 use Rattle.tag.proofs.OneBlockMade.{whole-back, length-withBlock, bits-withBlock}
 
 -- ---- the number, and a refusal
@@ -50,11 +51,19 @@ module _ (A : Agreement) (s message : List ℕ) (l j : ℕ) (t : List ℕ) where
   abbrev pub restoreFault : ℕ
   restoreFault = firstOf (restoreFaults A s (length message) l j (length t))
 
-  pub restore-faults : restoredNumber (restoreOf A s message l j t .0) ≡ restoreFault
-  unfolding restoreOf restoredBy restoredNumber pick
-  restore-faults = go (eqb restoreFault 0) refl
+  pub result-of : restoreOf A s message l j t .0 ≡ pick (eqb restoreFault 0) Filled (Refused restoreFault)
+  unfolding restoreOf restoredBy pick
+  result-of = go (eqb restoreFault 0)
     where
-      go : (b : Bool) → eqb restoreFault 0 ≡ b → restoredNumber (pick {A = Restored × List ℕ} b (Filled, withBlock j message (tagBytes (lostAt (settingsOf A) (keysOf s) message l j t))) (Refused restoreFault, message) .0) ≡ restoreFault
+      go : (b : Bool) → pick {A = Restored × List ℕ} b (Filled, withBlock j message (tagBytes (lostAt (settingsOf A) (keysOf s) message l j t))) (Refused restoreFault, message) .0 ≡ pick b Filled (Refused restoreFault)
+      go true = refl
+      go false = refl
+
+  pub restore-faults : restoredNumber (restoreOf A s message l j t .0) ≡ restoreFault
+  unfolding restoredNumber pick
+  restore-faults = ap restoredNumber result-of ∙ go (eqb restoreFault 0) refl
+    where
+      go : (b : Bool) → eqb restoreFault 0 ≡ b → restoredNumber (pick b Filled (Refused restoreFault)) ≡ restoreFault
       go true e = sym (eqb-true restoreFault 0 e)
       go false e = refl
 
@@ -164,14 +173,46 @@ module _ (A : Agreement) (s message : List ℕ) (l j : ℕ) (t : List ℕ) where
     pub checks-like : (f : List ℕ) → length f ≡ size → checkFault A s (withBlock j message f) l t ≡ 0
     checks-like f h = ap (λ (c : ℕ). firstOf (oneCallFaults A s c l (tagLengthWrong (A .m) (length t)))) (length-withBlock j l message (ok .fits) holds f h) ∙ ok .checked
 
-    pub checks-of : ((i : ℕ) → getD t i 0 < 256) → checkOf A s (withBlock j message filling) l t ≡ Yes (listed A (keysOf s) (bitsOf (withBlock j message filling) l))
-    checks-of bytes = says-yes A s (withBlock j message filling) l t (checks-like filling filling-long) (sym (fits-tag bytes))
+  -- ---- the message that a call leaves
+
+  abbrev pub left : List ℕ
+  left = restoreOf A s message l j t .1
+
+  left-filled : (none : restoreFault ≡ 0) → left ≡ withBlock j message (filling (accepted none))
+  left-filled none = ap (λ (r : Restored × List ℕ). r .1) (filled-of none)
+
+  pub left-outside : Outside j left message
+  left-outside = go (eqb restoreFault 0) refl
+    where
+      go : (b : Bool) → eqb restoreFault 0 ≡ b → Outside j left message
+      go true e =
+          let none = eqb-true restoreFault 0 e in
+          let ok = accepted none in
+          subst (λ (m : List ℕ). Outside j m message) (sym (left-filled none)) (outside-with j l message (ok .fits) (holds ok) (filling ok) (filling-long ok))
+      go false e =
+          subst (λ (m : List ℕ). Outside j m message) (sym (ap (λ (r : Restored × List ℕ). r .1) (refused-of (eqb-false restoreFault 0 e))))
+          (record { same-length = refl; same-before = refl; same-after = refl })
+
+  module _ (none : restoreFault ≡ 0) where
+    pub left-checks : ((i : ℕ) → getD t i 0 < 256) → checkOf A s left l t ≡ Yes (listed A (keysOf s) (bitsOf left l))
+    left-checks bytes =
+        let ok = accepted none in
+        let e = left-filled none in
+        says-yes A s left l t
+        (ap (λ (m : List ℕ). checkFault A s m l t) e ∙ checks-like ok (filling ok) (filling-long ok))
+        (sym (ap (λ (m : List ℕ). tagged A (keysOf s) (bitsOf m l)) e ∙ fits-tag ok bytes))
+
+    pub left-only : (f : List ℕ) → length f ≡ size → ((i : ℕ) → getD f i 0 < 256) → t ≡ tagged A (keysOf s) (bitsOf (withBlock j message f) l) → withBlock j message f ≡ left
+    left-only f long bytes e = ap (withBlock j message) (only-filling (accepted none) f long bytes (sym e)) ∙ sym (left-filled none)
 
 -- ---- what the block held has no influence
 
 module _ (A : Agreement) (s x y : List ℕ) (l j : ℕ) (t : List ℕ) (h : Outside j x y) where
   pub same-fault : restoreFault A s x l j t ≡ restoreFault A s y l j t
   same-fault = ap (λ (c : ℕ). firstOf (restoreFaults A s c l j (length t))) (h .same-length)
+
+  pub same-result : restoreOf A s x l j t .0 ≡ restoreOf A s y l j t .0
+  same-result = result-of A s x l j t ∙ ap (λ (k : ℕ). pick (eqb k 0) Filled (Refused k)) same-fault ∙ sym (result-of A s y l j t)
 
   pub whatever-of : restoreFault A s x l j t ≡ 0 → restoreOf A s x l j t ≡ restoreOf A s y l j t
   unfolding lostAt
