@@ -1,6 +1,7 @@
 //! openssl: the proved library against the installed OpenSSL. Its CMAC over SM4 is algorithm 5 with padding 4; the last block of its
-//! SM4-CBC over a padded message is algorithm 1, and algorithm 7 for a message that needs no padding. What the installed version
-//! does not have is passed over, with a line that says so.
+//! SM4-CBC over a padded message is algorithm 1, and algorithm 7 for a message that needs no padding. A message of which the library
+//! restored a block out of any sixteen bytes must have these as its tag. What the installed version does not have is passed over,
+//! with a line that says so.
 
 use differential::library;
 use reference::cases::Random;
@@ -55,6 +56,14 @@ fn made(agreement: Agreement, key: &[u8], message: &[u8]) -> String {
     hex(&tag)
 }
 
+/// The message with one of its blocks restored out of this tag.
+fn restored(agreement: Agreement, key: &[u8], message: &[u8], block: u64, tag: &[u8]) -> Vec<u8> {
+    let mut left = message.to_vec();
+    let number = library::restore(agreement, key, &mut left, 8 * message.len() as u64, block, tag);
+    assert_eq!(number, 0);
+    left
+}
+
 fn same(what: &str, key: &[u8], message: &[u8], library: &str, openssl: Option<String>) {
     if openssl.as_deref() != Some(library) {
         let (key, message) = (hex(key), hex(message));
@@ -69,23 +78,38 @@ fn main() {
     };
     println!("{}", String::from_utf8_lossy(&version).trim());
     let (has_mac, has_cipher) = (cmac(&[0; 16], &[]).is_some(), last_block(&[0; 16], &[0; 16]).is_some());
-    let r = &mut Random::new(1);
-    let (mut macs, mut chains) = (0, 0);
+    let (r, lost) = (&mut Random::new(1), &mut Random::new(2));
+    let (mut macs, mut chains, mut blocks) = (0, 0, 0);
     for size in (0..=66).chain([127, 128, 129, 1000, 4096, 65_537]) {
         let (mut key, mut message) = ([0; 16], vec![0; size]);
         r.fill(&mut key);
         r.fill(&mut message);
+        let (whole, mut any) = (size as u64 / 16, [0; 16]);
+        lost.fill(&mut any);
         if has_mac {
-            let tag = made(Agreement { algorithm: 5, padding: 4, m: 128 }, &key, &message);
+            let five = Agreement { algorithm: 5, padding: 4, m: 128 };
+            let tag = made(five, &key, &message);
             same("CMAC, algorithm 5", &key, &message, &tag, cmac(&key, &message));
             macs += 1;
+            if whole > 0 {
+                let left = restored(five, &key, &message, lost.below(whole), &any);
+                same("CMAC of a restored message", &key, &left, &hex(&any), cmac(&key, &left));
+                blocks += 1;
+            }
         }
         if has_cipher {
             let padding = 1 + size as u64 % 3;
-            let tag = made(Agreement { algorithm: 1, padding, m: 128 }, &key, &message);
+            let one = Agreement { algorithm: 1, padding, m: 128 };
+            let tag = made(one, &key, &message);
             let what = format!("CBC, algorithm 1, padding {padding}");
             same(&what, &key, &message, &tag, last_block(&key, &padded(padding, &message)));
             chains += 1;
+            if whole > 0 {
+                let left = restored(one, &key, &message, lost.below(whole), &any);
+                let what = format!("CBC of a restored message, padding {padding}");
+                same(&what, &key, &left, &hex(&any), last_block(&key, &padded(padding, &left)));
+                blocks += 1;
+            }
         }
         if has_cipher && size > 0 && size % 16 == 0 {
             let tag = made(Agreement { algorithm: 7, padding: 4, m: 56 }, &key, &message);
@@ -99,5 +123,5 @@ fn main() {
             println!("openssl: this version has no `{what}`, passed over");
         }
     }
-    println!("openssl: no difference in {macs} CMAC tags and {chains} CBC chains");
+    println!("openssl: no difference in {macs} CMAC tags and {chains} CBC chains; {blocks} restored blocks fit their tags");
 }
