@@ -11,7 +11,7 @@ ghost use Prim.Native.Nat.{_+_, _-_, _*_, _%_, _≤_, _<_};
 ghost use lib.ListN.{length, take, replicate};
 ghost use lib.Dec.{eqb};
 ghost use Rattle.bits.specs.Choice.{pick};
-ghost use Rattle.bits.specs.Str.{bytesBits, words, xorB, zeros, rotl, rotr, double};
+ghost use Rattle.bits.specs.Str.{bytesBits, words, xorB, rotl, rotr, double};
 ghost use Rattle.block.specs.Block.{storage, filledBlock};
 ghost use Rattle.cipher.specs.Ciphers.{cipherAt, tableAt, roundKeysAt, encAt, decAt};
 ghost use Rattle.mac.specs.Padding.{methodAt, suffix, blockCount, complete};

@@ -1,9 +1,9 @@
 -- The faults of a message and of the room for its tag: refusals 7 to 10 of document 01, a test for each in the words of its column,
--- and their order.
+-- and their order; and 41 of document 02, a block that is not there.
 -- Assumes nothing.
 use mathlib.Core.Bool.{Bool, not}
 use mathlib.Core.List.{List, [], _∷_}
-use Prim.Native.Nat.{ℕ}
+use Prim.Native.Nat.{ℕ, suc, _*_}
 use lib.Dec.{eqb, ltb}
 use Rattle.bits.specs.Choice.{Fault, _given_}
 use Rattle.cipher.specs.Cipher.{Cipher}
@@ -41,3 +41,7 @@ messageFaults S c l ten =
     9 given tooFewBlocks S l ∷
     10 given ten ∷
     []
+
+-- 41: block j, counted from 0, is not a whole block inside the l bits of the message
+unfoldable pub noSuchBlock : ℕ → ℕ → Bool
+noSuchBlock l j = ltb l (suc j * cipherAt 1 .n)

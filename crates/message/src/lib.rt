@@ -1,10 +1,10 @@
-// A message and the room for its tag, judged: refusals 7 to 10, which one call and sessions share, and how many bytes hold so many
-// bits.
+// A message and the room for its tag, judged: refusals 7 to 10, which one call and sessions share, and 41; and how many bytes hold so
+// many bits.
 ghost use mathlib.Core.Path.{_≡_};
 ghost use Prim.Native.Nat.{_+_};
 ghost use Rattle.bits.specs.Choice.{firstOf};
 ghost use Rattle.mac.specs.Tag.{bytesFor};
-ghost use Rattle.message.specs.Faults.{lengthWrong, tooManyBits, tooFewBlocks, roomShort, tagLengthWrong, messageFaults};
+ghost use Rattle.message.specs.Faults.{lengthWrong, tooManyBits, tooFewBlocks, roomShort, tagLengthWrong, messageFaults, noSuchBlock};
 
 // The bit count divided by 8, rounded up.
 pub fn bytes_for(bits: usize) -> usize
@@ -68,4 +68,11 @@ pub fn refusal(s: settings::Settings, length: usize, bits: usize, ten: bool) -> 
         ten,
     ];
     bits::first(&[7, 8, 9, 10], &there)
+}
+
+// Whether no whole block of the message has this number. Nothing is multiplied, so nothing wraps.
+pub fn no_such_block(bits: usize, number: usize) -> bool
+    ensures { λ r. ⌜ r ≡ noSuchBlock bits number ⌝ }
+{
+    bits / cipher::width(cipher::SM4) <= number
 }

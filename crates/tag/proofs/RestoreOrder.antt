@@ -18,9 +18,9 @@ use Rattle.keys.specs.Faults.{keyBytesWrong, keysSame, keysWeak}
 use Rattle.settings.specs.Faults.{algorithmWrong, paddingWrong, sizeWrong, settingsFaults}
 use Rattle.settings.specs.Answers.{settingsOf}
 use Rattle.settings.specs.declared.Agreement.{Agreement}
-use Rattle.message.specs.Faults.{lengthWrong, tooManyBits, tooFewBlocks, tagLengthWrong, messageFaults}
+use Rattle.message.specs.Faults.{lengthWrong, tooManyBits, tooFewBlocks, tagLengthWrong, messageFaults, noSuchBlock}
 use Rattle.tag.specs.OneCall.{oneCallFaults}
-use Rattle.tag.specs.Restore.{fullOnly, noSuchBlock, restoreFaults}
+use Rattle.tag.specs.Restore.{fullOnly, restoreFaults}
 use Rattle.tag.proofs.Full.{n}
 
 too-long : sizeWrong 7 128 ≡ true

@@ -31,12 +31,12 @@ use Rattle.settings.specs.Answers.{settingsOf}
 use Rattle.settings.specs.declared.Agreement.{Agreement}
 use Rattle.settings.specs.declared.Outcome.the-variants.{Yes}
 use Rattle.settings.proofs.Sound.{settings-numbered, sound-size}
-use Rattle.message.specs.Faults.{tagLengthWrong}
+use Rattle.message.specs.Faults.{tagLengthWrong, noSuchBlock}
 use Rattle.message.proofs.Taken.{Taken, numbered, taken}
 use Rattle.tag.specs.declared.Restored.{Restored}
 use Rattle.tag.specs.declared.Restored.the-variants.{Filled, Refused}
 use Rattle.tag.specs.OneCall.{oneCallFaults, checkOf}
-use Rattle.tag.specs.Restore.{fullOnly, noSuchBlock, restoreFaults, lostAt, withBlock, restoredBy, restoreOf, restoredNumber}
+use Rattle.tag.specs.Restore.{fullOnly, restoreFaults, lostAt, withBlock, restoredBy, restoreOf, restoredNumber}
 use Rattle.tag.proofs.Making.{settingsNo, unsound-first, accepted-message}
 use Rattle.tag.proofs.Numbers.{tagged, listed, checkFault, says-yes}
 use Rattle.tag.proofs.Full.{n, size, whole-bytes, tagged-full}

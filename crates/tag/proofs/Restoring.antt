@@ -1,16 +1,15 @@
--- What the answers of `restore` rest on: the test of 41, the order of the refusals, and where the block's bytes are put.
+-- What the answers of `restore` rest on: the order of the refusals, and where the block's bytes are put.
 -- Assumes nothing.
 use mathlib.Core.Path.{_≡_, refl, sym, ap, ap₂, _∙_}
 use mathlib.Core.Bool.{Bool, true, false}
 use mathlib.Core.List.{List, [], _∷_, _++_, append-assoc}
-use Prim.Native.Nat.{ℕ, suc, _+_, _-_, _*_, _/_, _≤_, _<_}
-use native.Mathlib.Nat.{suc-mul, le-div-iff-mul-le, mul-le-mul-right, lt-div-mul-add}
-use native.Mathlib.Decide.{decLt}
+use Prim.Native.Nat.{ℕ, suc, _+_, _-_, _*_, _≤_, _<_}
+use native.Mathlib.Nat.{suc-mul}
 use native.Mathlib.Omega.{arith}
 use lib.ListN.{length, take, drop, replicate}
 use lib.Seq.{take-all, take-at, drop-drop}
-use lib.Dec.{eqb, ltb, leb}
-use borrow.Author.Tests.{eqb-true, eqb-false, ne-eqb, ltb-false, not-false, lt-ltb, le-ltb, lt-leb, le-leb}
+use lib.Dec.{eqb}
+use borrow.Author.Tests.{eqb-true, eqb-false, ne-eqb, ltb-false, not-false}
 use Rattle.bits.specs.Choice.{pick, Fault, _given_, firstOf}
 use Rattle.bits.specs.Str.{bytesBits}
 use Rattle.bits.proofs.Choice.{hit, miss}
@@ -35,31 +34,14 @@ use Rattle.settings.specs.declared.Settings.{Settings}
 use Rattle.settings.specs.declared.Checked.{Checked}
 use Rattle.settings.specs.declared.Checked.the-variants.{Sound, Unsound}
 use Rattle.settings.proofs.Sound.{settings-alone, sound-fits}
-use Rattle.message.specs.Faults.{tagLengthWrong, messageFaults}
+use Rattle.message.specs.Faults.{tagLengthWrong, messageFaults, noSuchBlock}
 use Rattle.message.proofs.Taken.{Taken, numbered, taken}
 use Rattle.tag.proofs.Full.{n, size, whole-bytes, eights}
 use Rattle.tag.specs.declared.Restored.{Restored}
 use Rattle.tag.specs.declared.Restored.the-variants.{Filled, Refused}
 use Rattle.tag.specs.OneCall.{oneCallFaults}
-use Rattle.tag.specs.Restore.{fullOnly, noSuchBlock, restoreFaults, lostAt, restoredBy, restoreOf, restoreUnder}
+use Rattle.tag.specs.Restore.{fullOnly, restoreFaults, lostAt, restoredBy, restoreOf, restoreUnder}
 use Rattle.tag.proofs.Making.{settingsNo, refusal-first, refusal-some, settings-are}
-
--- ---- 41
-
-no-block-at : (l j n : ℕ) → 0 < n → leb (l / n) j ≡ ltb l (suc j * n)
-no-block-at l j n pos = go (decLt j (l / n))
-  where
-    go : Dec (j < l / n) → leb (l / n) j ≡ ltb l (suc j * n)
-    go (yes h) = lt-leb (l / n) j h ∙ sym (le-ltb l (suc j * n) ((le-div-iff-mul-le pos) .0 h))
-    go (no h) =
-        let few : l / n ≤ j = omega (arith, h) in
-        let less : l < l / n * n + n = lt-div-mul-add pos in
-        let past : suc (l / n) * n ≤ suc j * n = mul-le-mul-right n (omega arith) in
-        le-leb (l / n) j few ∙ sym (lt-ltb l (suc j * n) (omega (arith, less, suc-mul (l / n) n, past)))
-
-pub no-block-is : (l j w : ℕ) → w ≡ cipherAt 1 .n → leb (l / w) j ≡ noSuchBlock l j
-unfolding noSuchBlock
-no-block-is l j w e = ap (λ (k : ℕ). leb (l / k) j) e ∙ no-block-at l j (cipherAt 1 .n) (omega (arith, width-at 1))
 
 -- ---- a tag of n bits in sixteen bytes
 

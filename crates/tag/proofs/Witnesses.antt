@@ -28,10 +28,9 @@ use Rattle.keys.specs.Given.{keysOf}
 use Rattle.keys.specs.Faults.{keyBytes, keyBytesWrong, keysSame, keysWeak}
 use Rattle.settings.specs.Faults.{settingsFaults, algorithmWrong, paddingWrong, sizeWrong}
 use Rattle.settings.specs.declared.Agreement.{Agreement}
-use Rattle.message.specs.Faults.{messageFaults, lengthWrong, tooManyBits, tooFewBlocks, roomShort, tagLengthWrong}
+use Rattle.message.specs.Faults.{messageFaults, lengthWrong, tooManyBits, tooFewBlocks, roomShort, tagLengthWrong, noSuchBlock}
 use Rattle.tag.specs.OneCall.{oneCallFaults}
 use Rattle.tag.proofs.Numbers.{makeFault}
-use Rattle.tag.specs.Restore.{noSuchBlock}
 use Rattle.tag.proofs.Full.{n}
 use Rattle.tag.proofs.RestoreOrder.{order-full}
 use Rattle.tag.proofs.RestoredBlock.{restoreFault, checking, numbered-checking}

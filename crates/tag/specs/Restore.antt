@@ -1,11 +1,10 @@
 -- A lost block worked out in one call (document 02, §5): the order of its refusals, and the whole answer with every byte of the lent
 -- message at the end.
 -- Assumes nothing.
-use mathlib.Core.Bool.{Bool}
 use mathlib.Core.List.{List, [], _∷_, _++_}
 use Prim.Native.Nat.{ℕ, suc, _*_}
 use lib.ListN.{length, take, drop}
-use lib.Dec.{eqb, ltb}
+use lib.Dec.{eqb}
 use Rattle.bits.specs.Choice.{pick, Fault, _given_, firstOf}
 use Rattle.bits.specs.Str.{Bits, bytesBits}
 use Rattle.cipher.specs.Cipher.{Cipher}
@@ -18,7 +17,7 @@ use Rattle.keys.specs.Given.{keysOf}
 use Rattle.settings.specs.Answers.{settingsOf}
 use Rattle.settings.specs.declared.Agreement.{Agreement}
 use Rattle.settings.specs.declared.Settings.{Settings}
-use Rattle.message.specs.Faults.{tagLengthWrong, messageFaults}
+use Rattle.message.specs.Faults.{tagLengthWrong, messageFaults, noSuchBlock}
 use Rattle.tag.specs.OneCall.{oneCallFaults}
 use Rattle.tag.specs.declared.Restored.{Restored}
 use Rattle.tag.specs.declared.Restored.the-variants.{Filled, Refused}
@@ -28,10 +27,6 @@ use Rattle.tag.specs.declared.Restored.the-variants.{Filled, Refused}
 -- 3 is also for an m that is not a full tag's: it counts as 0, which 3 refuses (`restore-order`)
 unfoldable pub fullOnly : Agreement → Agreement
 fullOnly A = pick (eqb (A .m) (cipherAt 1 .n)) A (record { algorithm = A .algorithm; padding = A .padding; m = 0 })
-
--- 41: block j, counted from 0, is not a whole block inside the l bits of the message
-unfoldable pub noSuchBlock : ℕ → ℕ → Bool
-noSuchBlock l j = ltb l (suc j * cipherAt 1 .n)
 
 -- 1 to 10 as when checking a tag of t bytes, then 41
 unfoldable pub restoreFaults : Agreement → List ℕ → ℕ → ℕ → ℕ → ℕ → List Fault

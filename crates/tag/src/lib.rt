@@ -13,7 +13,7 @@ ghost use Rattle.mac.specs.Algorithm.{algorithmAt, row};
 ghost use Rattle.mac.specs.Tag.{bytesFor};
 ghost use Rattle.keys.specs.Given.{keyBits};
 ghost use Rattle.tag.specs.OneCall.{tagAt, makeOf, checkOf, makeUnder, checkUnder};
-ghost use Rattle.tag.specs.Restore.{fullOnly, noSuchBlock, lostAt, restoreOf, restoreUnder};
+ghost use Rattle.tag.specs.Restore.{fullOnly, lostAt, restoreOf, restoreUnder};
 
 // What a lost block comes to: it stands in the message again, or the number of the refusal.
 pub enum Restored {
@@ -136,13 +136,6 @@ fn full_only(agreement: settings::Agreement) -> settings::Agreement
     }
 }
 
-// Whether no whole block of the message has this number. Nothing is multiplied, so nothing wraps.
-fn no_such_block(bits: usize, number: usize) -> bool
-    ensures { λ r. ⌜ r ≡ noSuchBlock bits number ⌝ }
-{
-    bits / cipher::width(cipher::SM4) <= number
-}
-
 // The lost block.
 fn lost_block(
     s: settings::Settings,
@@ -182,7 +175,7 @@ fn restore_under(
     if no != 0 {
         return Restored::Refused(no);
     }
-    if no_such_block(bits, number) {
+    if message::no_such_block(bits, number) {
         return Restored::Refused(41);
     }
     let size = message::bytes_for(s.m);
