@@ -136,7 +136,7 @@ fn full_only(agreement: settings::Agreement) -> settings::Agreement
     }
 }
 
-// The lost block.
+// The bits of the lost block, and zeros after them.
 fn lost_block(
     s: settings::Settings,
     keys: keys::KeyBlocks,
