@@ -59,6 +59,13 @@ first-append [] gs some = absurd (some refl)
 first-append (k given true ∷ fs) gs some = refl
 first-append (k given false ∷ fs) gs some = first-append fs gs some
 
+-- and where the two have none, the first has none
+pub first-front : (fs gs : List Fault) → firstOf (fs ++ gs) ≡ 0 → firstOf fs ≡ 0
+unfolding firstOf pick
+first-front [] gs e = refl
+first-front (k given true ∷ fs) gs e = e
+first-front (k given false ∷ fs) gs e = first-front fs gs e
+
 -- what is known of both is known of the two one after the other, and the other way round
 pub numbered-append : {fs gs : List Fault} → Numbered fs → Numbered gs → Numbered (fs ++ gs)
 numbered-append none p = p

@@ -15,7 +15,7 @@ use lib.Seq.{getD-drop}
 use borrow.Author.Tests.{eqb-true, eqb-false, eq-eqb, ne-eqb, ltb-false, le-ltb, not-false}
 use Rattle.bits.specs.Choice.{pick, Fault, firstOf}
 use Rattle.bits.specs.Str.{Bits, bytesBits}
-use Rattle.bits.proofs.Faults.{Numbered, first-append, first-append-clear}
+use Rattle.bits.proofs.Faults.{Numbered, first-append-clear, first-front}
 use Rattle.bits.proofs.Packed.{length-bytesBits, bytesBits-inj}
 use Rattle.cipher.specs.Cipher.{Cipher}
 use Rattle.cipher.specs.Ciphers.{cipherAt}
@@ -27,6 +27,7 @@ use Rattle.mac.proofs.OneBlock.{refilled, full, tag-long}
 use Rattle.mac.proofs.TagBytes.{take-fits, length-tagBytes, tagBytes-fit, tagBytes-bytesBits, length-bitsOf}
 use Rattle.mac.proofs.Lost.{lost-long, lost-fits, lost-only, lost-same}
 use Rattle.keys.specs.Given.{keysOf}
+use Rattle.settings.specs.Faults.{settingsFaults, settingsRefusal}
 use Rattle.settings.specs.Answers.{settingsOf}
 use Rattle.settings.specs.declared.Agreement.{Agreement}
 use Rattle.settings.specs.declared.Outcome.the-variants.{Yes}
@@ -37,7 +38,7 @@ use Rattle.tag.specs.declared.Restored.{Restored}
 use Rattle.tag.specs.declared.Restored.the-variants.{Filled, Refused}
 use Rattle.tag.specs.OneCall.{oneCallFaults, checkOf}
 use Rattle.tag.specs.Restore.{fullOnly, restoreFaults, lostAt, withBlock, restoredBy, restoreOf, restoredNumber}
-use Rattle.tag.proofs.Making.{settingsNo, unsound-first, accepted-message}
+use Rattle.tag.proofs.Making.{settingsNo, accepted-message}
 use Rattle.tag.proofs.Numbers.{tagged, listed, checkFault, says-yes}
 use Rattle.tag.proofs.Full.{n, size, whole-bytes, tagged-full}
 use Rattle.tag.proofs.Restoring.{full-is}
@@ -86,18 +87,11 @@ module _ (A : Agreement) (s message : List ℕ) (l j : ℕ) (t : List ℕ) where
 
   clear-checking : restoreFault ≡ 0 → firstOf (checking (fullOnly A)) ≡ 0
   unfolding restoreFaults
-  clear-checking e = go (eqb (firstOf (checking (fullOnly A))) 0) refl
-    where
-      go : (b : Bool) → eqb (firstOf (checking (fullOnly A))) 0 ≡ b → firstOf (checking (fullOnly A)) ≡ 0
-      go true h = eqb-true _ 0 h
-      go false h = let some = eqb-false _ 0 h in absurd (some (sym (first-append (checking (fullOnly A)) _ some) ∙ e))
+  clear-checking e = first-front (checking (fullOnly A)) _ e
 
   sound-settings : restoreFault ≡ 0 → settingsNo (fullOnly A) s (length message) l true ≡ 0
-  sound-settings e = go (eqb (settingsNo (fullOnly A) s (length message) l true) 0) refl
-    where
-      go : (b : Bool) → eqb (settingsNo (fullOnly A) s (length message) l true) 0 ≡ b → settingsNo (fullOnly A) s (length message) l true ≡ 0
-      go true h = eqb-true _ 0 h
-      go false h = let some = eqb-false _ 0 h in absurd (some (sym (unsound-first (fullOnly A) s (length message) l _ some) ∙ clear-checking e))
+  unfolding oneCallFaults settingsRefusal
+  sound-settings e = first-front (settingsFaults (fullOnly A) (length s) (keysOf s)) _ (clear-checking e)
 
   pub record Accepted : Type 0 where
     pub whole : A .m ≡ n
