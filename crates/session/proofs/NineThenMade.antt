@@ -30,6 +30,7 @@ use Rattle.settings.specs.declared.Outcome.the-variants.{Made}
 use Rattle.settings.proofs.Numbers.{Unrefused}
 use Rattle.message.specs.Faults.{tooFewBlocks, roomShort}
 use Rattle.tag.specs.OneCall.{oneCallFaults, makeOf}
+use Rattle.tag.proofs.Making.{one-call-numbered}
 use Rattle.tag.proofs.Numbers.{made-of, make-sound}
 use Rattle.session.specs.declared.Purpose.the-variants.{Making}
 use Rattle.session.specs.declared.Session.{Session}
@@ -39,7 +40,7 @@ use Rattle.session.specs.Calls.{freshOf, startOf, fallsShort, endFaults,
 use Rattle.session.proofs.Purposes.{aimed-closed}
 use Rattle.session.proofs.Stood.{stood, stood-making}
 use Rattle.session.proofs.Joined.{Offered, bitsIn, offers, ends, answered, handed, ending, finish-faults, refused-finish, start-stood}
-use Rattle.session.proofs.Accepting.{Cut, Served, accepting, end, next, one-call-numbered, stays-open, all-handed}
+use Rattle.session.proofs.Accepting.{Cut, Served, accepting, end, next, stays-open, all-handed}
 
 abbrev pub four : ℕ → Agreement
 four m = record { algorithm = 4; padding = 1; m = m }

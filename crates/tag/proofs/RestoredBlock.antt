@@ -15,7 +15,7 @@ use lib.Seq.{getD-drop}
 use borrow.Author.Tests.{eqb-true, eqb-false, eq-eqb, ne-eqb, ltb-false, le-ltb, not-false}
 use Rattle.bits.specs.Choice.{pick, Fault, firstOf}
 use Rattle.bits.specs.Str.{Bits, bytesBits}
-use Rattle.bits.proofs.Faults.{Numbered, first-append-clear, first-front}
+use Rattle.bits.proofs.Faults.{first-append-clear, first-front}
 use Rattle.bits.proofs.Packed.{length-bytesBits, bytesBits-inj}
 use Rattle.cipher.specs.Cipher.{Cipher}
 use Rattle.cipher.specs.Ciphers.{cipherAt}
@@ -31,14 +31,14 @@ use Rattle.settings.specs.Faults.{settingsFaults, settingsRefusal}
 use Rattle.settings.specs.Answers.{settingsOf}
 use Rattle.settings.specs.declared.Agreement.{Agreement}
 use Rattle.settings.specs.declared.Outcome.the-variants.{Yes}
-use Rattle.settings.proofs.Sound.{settings-numbered, sound-size}
+use Rattle.settings.proofs.Sound.{sound-size}
 use Rattle.message.specs.Faults.{tagLengthWrong, noSuchBlock}
-use Rattle.message.proofs.Taken.{Taken, numbered, taken}
+use Rattle.message.proofs.Taken.{Taken, taken}
 use Rattle.tag.specs.declared.Restored.{Restored}
 use Rattle.tag.specs.declared.Restored.the-variants.{Filled, Refused}
 use Rattle.tag.specs.OneCall.{oneCallFaults, checkOf}
 use Rattle.tag.specs.Restore.{fullOnly, restoreFaults, lostAt, withBlock, restoredBy, restoreOf, restoredNumber}
-use Rattle.tag.proofs.Making.{settingsNo, accepted-message}
+use Rattle.tag.proofs.Making.{one-call-numbered, settingsNo, accepted-message}
 use Rattle.tag.proofs.Numbers.{tagged, listed, checkFault, says-yes}
 use Rattle.tag.proofs.Full.{n, size, whole-bytes, tagged-full}
 use Rattle.tag.proofs.Restoring.{full-is}
@@ -81,10 +81,6 @@ module _ (A : Agreement) (s message : List ℕ) (l j : ℕ) (t : List ℕ) where
   abbrev pub checking : Agreement → List Fault
   checking B = oneCallFaults B s (length message) l (tagLengthWrong (B .m) (length t))
 
-  pub numbered-checking : (B : Agreement) → Numbered (checking B)
-  unfolding oneCallFaults
-  numbered-checking B = settings-numbered B (length s) (keysOf s) _ (numbered (settingsOf B) (length message) l _)
-
   clear-checking : restoreFault ≡ 0 → firstOf (checking (fullOnly A)) ≡ 0
   unfolding restoreFaults
   clear-checking e = first-front (checking (fullOnly A)) _ e
@@ -103,7 +99,7 @@ module _ (A : Agreement) (s message : List ℕ) (l j : ℕ) (t : List ℕ) where
   accepted e = record {
     whole = both .0;
     checked = ap (λ (B : Agreement). firstOf (checking B)) (sym (both .1)) ∙ clear-checking e;
-    fits = ltb-false l (suc j * n) (there _ (sym (first-append-clear (checking (fullOnly A)) _ (numbered-checking (fullOnly A)) (clear-checking e)) ∙ e));
+    fits = ltb-false l (suc j * n) (there _ (sym (first-append-clear (checking (fullOnly A)) _ (one-call-numbered (fullOnly A) s (length message) l _) (clear-checking e)) ∙ e));
   }
     where
       both : (A .m ≡ n) × (fullOnly A ≡ A)
@@ -228,7 +224,7 @@ module _ (A : Agreement) (s x : List ℕ) (l j : ℕ) (t f : List ℕ) (whole : 
   unfolding noSuchBlock firstOf pick
   back-accepted =
       ap firstOf (order-full A s (length (withBlock j x f)) l j (length t) whole)
-      ∙ first-append-clear (checking A s (withBlock j x f) l j t A) _ (numbered-checking A s (withBlock j x f) l j t A) same
+      ∙ first-append-clear (checking A s (withBlock j x f) l j t A) _ (one-call-numbered A s (length (withBlock j x f)) l _) same
       ∙ ap (λ (b : Bool). pick b 41 0) (le-ltb l (suc j * n) fits)
     where
       same : firstOf (checking A s (withBlock j x f) l j t A) ≡ 0

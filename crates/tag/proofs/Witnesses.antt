@@ -33,7 +33,8 @@ use Rattle.tag.specs.OneCall.{oneCallFaults}
 use Rattle.tag.proofs.Numbers.{makeFault}
 use Rattle.tag.proofs.Full.{n}
 use Rattle.tag.proofs.RestoreOrder.{order-full}
-use Rattle.tag.proofs.RestoredBlock.{restoreFault, checking, numbered-checking}
+use Rattle.tag.proofs.Making.{one-call-numbered}
+use Rattle.tag.proofs.RestoredBlock.{restoreFault, checking}
 
 -- an agreement on full tags
 abbrev pub fullTags : ℕ → ℕ → Agreement
@@ -99,7 +100,7 @@ pub restore-accepted : (a p : ℕ) → algorithmWrong a ≡ false → paddingWro
 unfolding noSuchBlock firstOf pick
 restore-accepted a p e1 e2 e3 x t long sixteen j low =
     ap firstOf (order-full (fullTags a p) (someKeys a) (length x) 256 j (length t) refl)
-    ∙ first-append-clear (checking (fullTags a p) (someKeys a) x 256 j t (fullTags a p)) _ (numbered-checking (fullTags a p) (someKeys a) x 256 j t (fullTags a p)) checked
+    ∙ first-append-clear (checking (fullTags a p) (someKeys a) x 256 j t (fullTags a p)) _ (one-call-numbered (fullTags a p) (someKeys a) (length x) 256 _) checked
     ∙ ap (λ (b : Bool). pick b 41 0) (le-ltb 256 (suc j * n) inside)
   where
     inside : suc j * n ≤ 256

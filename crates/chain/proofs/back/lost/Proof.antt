@@ -42,6 +42,12 @@ end-bytes n w j W e = omega (arith, end-is n w j e, eights n W (suc j))
 counted : (n w j l : ℕ) → 0 < n → w ≡ n → suc j * n ≤ l → suc j ≤ l / w
 counted n w j l pos e h = let m : suc j ≤ l / n = (le-div-iff-mul-le pos) .1 h in omega (arith, ap (λ (k : ℕ). l / k) e)
 
+-- the same at the start of the call
+counted-at : (c : tie.Start) (w : ℕ) → w ≡ widthOf (c .args .k) → suc (c .args .number) ≤ c .args .bits / w
+counted-at c w e =
+    let W = width-at (c .args .k .cipher) in
+    counted (widthOf (c .args .k)) w (c .args .number) (c .args .bits) (omega (arith, W)) e (c .pre .4)
+
 -- the blocks that follow lie in the rest of the message
 following : (n w j l : ℕ) (s : List ℕ) → Width n → w ≡ n → l ≤ 8 * length s → suc j * n ≤ l
     → (l / w - j - 1) * n ≤ 8 * length (take (length s - (j + 1) * w / 8) (drop ((j + 1) * w / 8) s))
@@ -53,12 +59,6 @@ following n w j l s W e h fits =
     let all : l / w * n ≤ l = omega (arith, ap (λ (k : ℕ). l / k * n) e, div-mul-le-self l n) in
     omega (arith, ap length (from-is at s) ∙ length-drop at s, end-bytes n w j W e, blocks, all)
 
--- the block is a whole one of the message
-there : (c : tie.Start) (w : ℕ) → w ≡ widthOf (c .args .k) → suc (c .args .number) ≤ c .args .bits / w
-there c w e =
-    let W = width-at (c .args .k .cipher) in
-    counted (widthOf (c .args .k)) w (c .args .number) (c .args .bits) (omega (arith, W)) e (c .pre .4)
-
 behind : (c : tie.Start) (w : ℕ) → w ≡ widthOf (c .args .k) → (c .args .number + 1) * w / 8 ≤ length (c .args .message .now)
 behind c w e = omega (arith, end-bytes (widthOf (c .args .k)) w (c .args .number) (width-at (c .args .k .cipher)) e, c .pre .3, c .pre .4)
 
@@ -69,7 +69,7 @@ add-end : tie.Need-add-end
 add-end c =
     let start = c .before .before in
     let a = start .args in
-    let le : a .number + 1 ≤ a .bits = omega (arith, there start (c .width .result) (c .width .ensures), div-le-self (a .bits) (c .width .result)) in
+    let le : a .number + 1 ≤ a .bits = omega (arith, counted-at start (c .width .result) (c .width .ensures), div-le-self (a .bits) (c .width .result)) in
     record { fits = lt-of-le-of-lt le (start .fits .bits .fits) }
 
 mul-end : tie.Need-mul-end
@@ -94,10 +94,10 @@ div-through : tie.Need-div-through
 div-through c = let width = c .before .before .before .before .before .before .before in omega (arith, width-at (width .before .before .args .k .cipher), width .width .ensures)
 
 sub-through-2 : tie.Need-sub-through-2
-sub-through-2 c = let width = c .before .before .before .before .before .before .before in omega (arith, there (width .before .before) (width .width .result) (width .width .ensures))
+sub-through-2 c = let width = c .before .before .before .before .before .before .before in omega (arith, counted-at (width .before .before) (width .width .result) (width .width .ensures))
 
 sub-through-3 : tie.Need-sub-through-3
-sub-through-3 c = let width = c .before .before .before .before .before .before .before in omega (arith, there (width .before .before) (width .width .result) (width .width .ensures))
+sub-through-3 c = let width = c .before .before .before .before .before .before .before in omega (arith, counted-at (width .before .before) (width .width .result) (width .width .ensures))
 
 through-requires : tie.Need-through-requires
 through-requires c κs =
