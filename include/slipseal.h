@@ -12,14 +12,22 @@
  * bits, and spare bits of the last byte have no influence. A tag is m bits in (m + 7) / 8 bytes, filled from the left, with zeros
  * in the spare bits.
  *
- * Agreements. What was agreed is one struct: the algorithm, the padding and m, the tag's number of bits. It comes from the caller's
- * own records and never from what is checked under it. Any numbers may stand in it; all but those of this table are refused.
+ * Agreements. What was agreed is one struct: the algorithm, the padding, m, the tag's number of bits, and whether a master is in
+ * use. It comes from the caller's own records and never from what is checked under it. Any numbers may stand in it; all but those
+ * of this table are refused.
  *
- *   algorithm     padding   key bytes       m
- *   1             1 to 3    16              1 to 128
- *   2, 3, 4, 6    1 to 3    32, K then K'   1 to 128
- *   5, 8          4         16              1 to 128
- *   7             4         16              1 to 63
+ *   algorithm     padding   key bytes       under a master          m
+ *   1             1 to 3    16              refused                 1 to 128
+ *   2, 6          1 to 3    32, K then K'   16, the master          1 to 128
+ *   3             1 to 3    32, K then K'   refused                 1 to 128
+ *   4             1 to 3    32, K then K'   32, K then the master   1 to 128
+ *   5, 8          4         16              refused                 1 to 128
+ *   7             4         16              refused                 1 to 63
+ *
+ * Masters. A supplier may send one key, the master, of which two are derived by key derivation method 1 of the standard (6.2.2):
+ * the first is the number 1 and the second the number 2, each written as a block of 128 bits and enciphered under the master. They
+ * serve as K and K' in algorithms 2 and 6, and as K' and K'' in algorithm 4. Each call derives them anew. The number of calls that
+ * is reported for a tag or a slip is 2 larger under a master, in a session too.
  *
  * Paddings: 1 is zeros; 2 is a one, then zeros; 3 is zeros, with the length in a block before the message; 4 is nothing for a
  * message of one or more whole blocks, else as 2.
@@ -30,7 +38,7 @@
  *    1  the algorithm is not one of 1 to 8
  *    2  the padding does not belong to the algorithm
  *    3  the tag's number of bits is not allowed for the algorithm
- *    4  the keys have the wrong length for the algorithm
+ *    4  the keys have the wrong length for the algorithm, or it takes no master
  *    5  the first key is the same as another and must differ
  *    6  the second key is the same as the third and must differ
  *    7  the message has the wrong number of bytes for its bits
@@ -49,10 +57,11 @@
  *   41  no such whole block
  *
  * When a slip is written, 22 and 23 speak of the lot, the amount and the date handed in, and 10 of the room for the whole slip.
- * When a block is restored, 3 speaks of every m but 128.
+ * When a block is restored, 3 speaks of every m but 128. Under a master, 4 speaks also of every algorithm but 2, 4 and 6, whatever
+ * the length of the keys; and 5 of the keys in use: in algorithm 4, K must be neither of the derived keys, but may be the master.
  *
- * Keys stay where the caller put them, and a session's record holds a copy. Copies that a call made on the stack are not wiped,
- * and nothing is promised about how long a call takes. */
+ * Keys stay where the caller put them, and a session's record holds a copy. Copies that a call made on the stack, and the keys that
+ * it derived there, are not wiped, and nothing is promised about how long a call takes. */
 #ifndef SLIPSEAL_H
 #define SLIPSEAL_H
 
@@ -68,7 +77,8 @@ extern "C" {
 #endif
 
 /* What a call answers. number: 0, or the refusal's. yes: 1 for a tag made and for a tag checked to be right, in one call or at the
- * end of a session; else 0. calls: the cipher calls of the whole message; 0 for a refusal, a start and a piece.
+ * end of a session; else 0. calls: the cipher calls of the whole message, under a master 2 more; 0 for a refusal, a start and a
+ * piece.
  * A checked tag is right where yes is 1. Number 0 alone does not say so: a wrong tag gives number 0 and yes 0. */
 typedef struct slipseal_answer {
     uint64_t number;
@@ -81,23 +91,25 @@ typedef struct slipseal_agreement {
     uint64_t algorithm; /* 1 to 8 */
     uint64_t padding;   /* 1 to 4 */
     uint64_t m;         /* the tag's number of bits, 1 to 128 */
+    uint64_t master;    /* whether a master is in use: 0 no, any other number yes; in a session's record 0 or 1 */
 } slipseal_agreement;
 
 /* A session's record. It goes into each call by value and the next one comes back; hand it on unaltered. Any content is answered.
  * A record counts as closed where
- *   - its purpose is neither 0 nor 1;
+ *   - its purpose or its agreement's master is neither 0 nor 1;
  *   - it is neither in phase 1 with part 0 and total % 8 = 0, nor in phase 2 with part 1 to 7 and total % 8 = part;
- *   - a start would refuse its agreement or keys;
+ *   - a start would refuse its agreement or keys, a master with algorithm 3 among them;
  *   - its total is over 8388608, or under padding 3 its declared length is, or its total is over its declared length;
  *   - a bit of held past the bits that wait there is set. */
 typedef struct slipseal_session {
     uint64_t phase;               /* 0 closed, 1 open at a byte edge, 2 open after a part byte */
     uint64_t part;                /* the bits of the part byte, 1 to 7, in phase 2; else 0 */
     uint64_t purpose;             /* 0 making a tag, 1 checking one */
-    slipseal_agreement agreement; /* as it was given to the start */
+    slipseal_agreement agreement; /* as it was given to the start, with 1 for a master in use */
     uint64_t declared;            /* under padding 3 the declared number of bits; else 0 after a start, and not read */
     uint64_t total;               /* the bits so far */
-    uint8_t keys[32];             /* K, then K'; zeros after a start, and not read, where the algorithm takes one key */
+    uint8_t keys[32];             /* as they were given to the start, a master too; where these are 16 bytes, the others are zeros
+                                   * after a start, and not read */
     uint8_t chain[16];            /* the chain value */
     uint8_t held[16];             /* the waiting block; no bits while total is 0, else (total - 1) % 128 + 1 */
     uint8_t expected[16];         /* the tag to be checked, (m + 7) / 8 bytes as they were given; the others, and all where a tag
@@ -117,7 +129,7 @@ typedef struct slipseal_slip {
     uint64_t month;
     uint64_t day;
     uint64_t amount;  /* microlitres, 1 to 1000000 */
-    uint64_t calls;   /* the cipher calls of the seal's check */
+    uint64_t calls;   /* the cipher calls of the seal's check, under a master 2 more */
     uint64_t lot_at;  /* the lot is the lot_len bytes of the slip from lot_at on, 1 to 32 of them, each 21 to 7E */
     uint64_t lot_len;
 } slipseal_slip;
@@ -134,7 +146,7 @@ typedef struct slipseal_gathered {
 typedef struct slipseal_written {
     uint64_t number; /* 0 for a written slip, else the refusal's */
     uint64_t length; /* the slip's number of bytes, 29 to 75 */
-    uint64_t calls;  /* the cipher calls of the seal */
+    uint64_t calls;  /* the cipher calls of the seal, under a master 2 more */
 } slipseal_written;
 
 /* Makes the tag of a message. Refusals: 1 to 10, rising; 10 where tag_len is under (m + 7) / 8, with the agreement's m. Otherwise
@@ -199,8 +211,10 @@ slipseal_step slipseal_finish_check(slipseal_session session);
  * that is not allowed, 20 for a value cut short, 22 for a wrong value, 23 for no real date of 2000 to 2099; then 24 for bytes after
  * the seal; 25 where the seal names another algorithm, padding or m than agreed, however well its tag fits; 1 to 6 for the
  * agreement and the keys; 10 where the seal's tag is not (m + 7) / 8 bytes long; 30 for a wrong seal.
- * An accepted slip names exactly the agreement. Its tag covers all bytes before field 7F, and under one agreement and keys two
- * accepted slips with the same bytes before field 7F are one slip. */
+ * A slip does not name the master, and 25 does not look at it: whether one is in use is the agreement's alone to say. Where
+ * it says so wrongly, the slip is judged under other keys, and as a rule gets 4 or 30.
+ * An accepted slip names exactly the agreement's algorithm, padding and m. Its tag covers all bytes before field 7F, and under one
+ * agreement and keys two accepted slips with the same bytes before field 7F are one slip. */
 slipseal_slip slipseal_read(slipseal_agreement agreement, const uint8_t *keys, size_t keys_len, const uint8_t *slip,
                             size_t slip_len);
 

@@ -10,13 +10,15 @@ mod work;
 
 use peer::Peer;
 use reference::{hex, unhex};
-use slipseal::Agreement;
+use slipseal::raw::Agreement;
 use std::fmt::Debug;
 use std::process::exit;
 use work::Tagged;
 
 const ROUNDS: usize = 9;
 const KEY: &str = "0123456789ABCDEFFEDCBA9876543210";
+/// The two keys that are derived from it.
+const DERIVED: &str = "4E595BF03F23BD10329BAF5698E898ECB3136C044E95482D4F652E694F2741CD";
 const SLIP: &str = "01000832303236313130340200024137030004000001F47F000B050440A47A9299C7B8456C";
 /// Where the slip is cut into two reads.
 const CUT: usize = 20;
@@ -59,6 +61,13 @@ fn agree_on_restore(key: &[u8], message: &[u8], tag: &[u8]) {
     }
 }
 
+/// The derived keys, given, make the same tag with two calls less.
+fn agree_on_master(what: &str, master: &[u8], derived: &[u8], message: &[u8]) {
+    let (tag, [number, yes, calls]) = agree_on_make(what, work::mastered(6, 1), master, message, &[]);
+    let given = work::library_make(work::agreed(6, 1), derived, message);
+    agree(&format!("{what}, keys given"), given, (tag, [number, yes, calls - 2]));
+}
+
 fn agree_on_slip(what: &str, key: &[u8], slip: &[u8], number: u64) {
     let read = work::library_slip(key, slip);
     agree(what, read, work::baseline_slip(key, slip));
@@ -72,12 +81,13 @@ fn main() {
         exit(2);
     };
     let message: Vec<u8> = (0..work::MESSAGE_BYTES).map(|i| (i * i / 251) as u8).collect();
-    let (key, slip) = (unhex(KEY).unwrap(), unhex(SLIP).unwrap());
-    let (message, key, slip) = (&message[..], &key[..], &slip[..]);
+    let (key, derived, slip) = (unhex(KEY).unwrap(), unhex(DERIVED).unwrap(), unhex(SLIP).unwrap());
+    let (message, key, derived, slip) = (&message[..], &key[..], &derived[..], &slip[..]);
     let mut wrong = slip.to_vec();
     *wrong.last_mut().unwrap() ^= 1;
     let cut = &slip[..slip.len() - 1];
     let short = &message[message.len() - work::SHORT_BYTES..];
+    let middle = &message[message.len() - work::MIDDLE_BYTES..];
     let (openssl, botan, libgcrypt) = (openssl::find(), peer::built("botan.so"), peer::built("gcrypt.so"));
     let peers: Vec<&Peer> = [&openssl, &botan, &libgcrypt].into_iter().flatten().collect();
 
@@ -92,6 +102,9 @@ fn main() {
     let cmac = agree_on_make("make, algorithm 5", five, key, message, &peers);
     agree_on_make("make on 16 bytes, algorithm 1", one, key, short, &[]);
     agree_on_make("make on 16 bytes, algorithm 5", five, key, short, &peers);
+    agree_on_master("make on 16 bytes under a master", key, derived, short);
+    agree_on_master("make on 64 bytes under a master", key, derived, middle);
+    agree_on_master("make on 1 MiB under a master", key, derived, message);
     agree_on_slip("slip", key, slip, 0);
     let gathered = work::library_gathered(key, [&slip[..CUT], &slip[CUT..]]);
     agree("slip gathered", gathered, work::baseline_slip(key, slip));
@@ -148,6 +161,27 @@ fn main() {
             key,
             message,
             &peers,
+        ),
+        work::master_line(
+            "tags of 16 bytes under a master a second, algorithm 6",
+            work::SHORT_CALLS,
+            key,
+            derived,
+            short,
+        ),
+        work::master_line(
+            "tags of 64 bytes under a master a second, algorithm 6",
+            work::SHORT_CALLS,
+            key,
+            derived,
+            middle,
+        ),
+        work::master_line(
+            "tags of 1 MiB under a master, algorithm 6, MiB a second",
+            1,
+            key,
+            derived,
+            message,
         ),
     ];
     measure::measure(&mut lines, rounds);

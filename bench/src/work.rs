@@ -1,15 +1,18 @@
 //! The measured work, each piece as the library, the baseline and, for CMAC, the peers do it: a tag in one call, a session, a check
-//! in a session, a slip read, a slip gathered and read, a slip written; and lost blocks restored by the library, beside its own
-//! check. Answers are turned into plain numbers, so that they can be compared.
+//! in a session, a slip read, a slip gathered and read, a slip written; lost blocks restored by the library, beside its own check;
+//! and a tag under a master, beside the library's own under the derived keys. Answers are turned into plain numbers, so that they can
+//! be compared.
 
 use crate::measure::{Line, Way};
 use crate::peer::Peer;
 use reference::{session, slip};
-use slipseal::{raw, Agreement, Contents};
+use slipseal::raw::{self, Agreement};
+use slipseal::Contents;
 use std::hint::black_box;
 
 pub const MESSAGE_BYTES: usize = 1 << 20;
 pub const SHORT_BYTES: usize = 16;
+pub const MIDDLE_BYTES: usize = 64;
 const PIECE_BYTES: usize = 64 << 10;
 /// Of a check in a session: the chunks of the bindings.
 const CHUNK_BYTES: usize = 32 << 10;
@@ -28,13 +31,18 @@ pub type Tagged = ([u8; 16], [u64; 3]);
 
 /// What is agreed in all of it, but for slips.
 pub fn agreed(algorithm: u64, padding: u64) -> Agreement {
-    Agreement { algorithm, padding, m: 128 }
+    Agreement { algorithm, padding, m: 128, master: 0 }
+}
+
+/// The same under a master.
+pub fn mastered(algorithm: u64, padding: u64) -> Agreement {
+    Agreement { master: 1, ..agreed(algorithm, padding) }
 }
 
 /// The same for the baseline.
 fn of_baseline(agreement: Agreement) -> reference::Agreement {
-    let Agreement { algorithm, padding, m } = agreement;
-    reference::Agreement { algorithm, padding, m }
+    let Agreement { algorithm, padding, m, master } = agreement;
+    reference::Agreement { algorithm, padding, m, master: master != 0 }
 }
 
 pub fn library_make(agreement: Agreement, key: &[u8], message: &[u8]) -> Tagged {
@@ -102,7 +110,7 @@ pub fn baseline_check_session(key: &[u8], message: &[u8], tag: &[u8]) -> [u64; 3
 
 /// The slip of the example: what it says, and what is agreed on it.
 const SAYS: Contents<'_> = Contents { year: 2026, month: 11, day: 4, lot: b"A7", amount: 500 };
-const SEALED: Agreement = Agreement { algorithm: 5, padding: 4, m: 64 };
+const SEALED: Agreement = Agreement { algorithm: 5, padding: 4, m: 64, master: 0 };
 
 fn numbers(s: raw::Slip) -> [u64; 8] {
     [s.number, s.year, s.month, s.day, s.amount, s.calls, s.lot_at, s.lot_len]
@@ -188,6 +196,20 @@ pub fn make_line<'a>(
         let cmac = move || peer.cmac(black_box(key), black_box(message));
         line.ways.push(Way::new(&peer.name, repeated(calls, cmac)));
     }
+    line
+}
+
+/// Tags of algorithm 6 under a master. The library's own under the two derived keys, which are given, stand beside them.
+pub fn master_line<'a>(
+    what: &'static str,
+    calls: usize,
+    master: &'a [u8],
+    derived: &'a [u8],
+    message: &'a [u8],
+) -> Line<'a> {
+    let mut line = make_line(what, calls, mastered(6, 1), master, message, &[]);
+    let given = move || library_make(agreed(6, 1), black_box(derived), black_box(message));
+    line.ways.push(Way::new("keys given", repeated(calls, given)));
     line
 }
 

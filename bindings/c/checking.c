@@ -3,7 +3,7 @@
  * one, in which the program is started. */
 #include "expect.h"
 
-static const slipseal_agreement five = {5, 4, 64};
+static const slipseal_agreement five = {5, 4, 64, 0};
 
 static const slipseal_session zeros = {0};
 
@@ -67,31 +67,31 @@ static void refused_starts(void)
 {
     const uint64_t far = (uint64_t)1 << 32;
     const starting refused[] = {
-        {1, {9, 9, 999}, 3, SIZE_MAX, 17},
-        {1, {far + 5, 4, 64}, 16, 0, 8},
-        {2, {4, 9, 999}, 3, SIZE_MAX, 17},
-        {2, {5, far + 4, 64}, 16, 0, 8},
-        {3, {4, 3, 999}, 3, SIZE_MAX, 17},
-        {3, {5, 4, far + 64}, 16, 0, 8},
-        {4, {4, 3, 64}, 3, SIZE_MAX, 17},
-        {5, {4, 3, 64}, 32, SIZE_MAX, 17},
-        {8, {3, 3, 64}, 32, SIZE_MAX, 17},
-        {8, {3, 3, 64}, 32, 8388609, 7},
-        {8, {3, 3, 64}, 32, 8388609, 8},
-        {10, {3, 3, 64}, 32, 8388608, 7},
-        {10, {5, 4, 64}, 16, SIZE_MAX, 0},
-        {10, {5, 4, 64}, 16, SIZE_MAX, 7},
-        {10, {5, 4, 64}, 16, SIZE_MAX, 9},
-        {10, {5, 4, 64}, 16, SIZE_MAX, 16},
-        {10, {5, 4, 128}, 16, 0, 17},
-        {10, {5, 4, 65}, 16, 0, 8},
-        {10, {5, 4, 1}, 16, 0, 0}};
+        {1, {9, 9, 999, 0}, 3, SIZE_MAX, 17},
+        {1, {far + 5, 4, 64, 0}, 16, 0, 8},
+        {2, {4, 9, 999, 0}, 3, SIZE_MAX, 17},
+        {2, {5, far + 4, 64, 0}, 16, 0, 8},
+        {3, {4, 3, 999, 0}, 3, SIZE_MAX, 17},
+        {3, {5, 4, far + 64, 0}, 16, 0, 8},
+        {4, {4, 3, 64, 0}, 3, SIZE_MAX, 17},
+        {5, {4, 3, 64, 0}, 32, SIZE_MAX, 17},
+        {8, {3, 3, 64, 0}, 32, SIZE_MAX, 17},
+        {8, {3, 3, 64, 0}, 32, 8388609, 7},
+        {8, {3, 3, 64, 0}, 32, 8388609, 8},
+        {10, {3, 3, 64, 0}, 32, 8388608, 7},
+        {10, {5, 4, 64, 0}, 16, SIZE_MAX, 0},
+        {10, {5, 4, 64, 0}, 16, SIZE_MAX, 7},
+        {10, {5, 4, 64, 0}, 16, SIZE_MAX, 9},
+        {10, {5, 4, 64, 0}, 16, SIZE_MAX, 16},
+        {10, {5, 4, 128, 0}, 16, 0, 17},
+        {10, {5, 4, 65, 0}, 16, 0, 8},
+        {10, {5, 4, 1, 0}, 16, 0, 0}};
     const starting taken[] = {
-        {0, {3, 3, 64}, 32, 8388608, 8},
-        {0, {5, 4, 64}, 16, SIZE_MAX, 8},
-        {0, {5, 4, 65}, 16, 0, 9},
-        {0, {5, 4, 128}, 16, 0, 16},
-        {0, {5, 4, 1}, 16, 0, 1}};
+        {0, {3, 3, 64, 0}, 32, 8388608, 8},
+        {0, {5, 4, 64, 0}, 16, SIZE_MAX, 8},
+        {0, {5, 4, 65, 0}, 16, 0, 9},
+        {0, {5, 4, 128, 0}, 16, 0, 16},
+        {0, {5, 4, 1, 0}, 16, 0, 1}};
     uint8_t keys[32], tag[17];
     size_t i;
     memcpy(keys, key, 16);
@@ -114,7 +114,7 @@ static void refused_starts(void)
 /* Each finish, tried on a session of the other purpose: 11 and the very struct, also with 12, 9 and 10 beside it. */
 static void other_purpose(void)
 {
-    const slipseal_agreement short_of_bits = {4, 3, 64}, one_block = {4, 1, 64};
+    const slipseal_agreement short_of_bits = {4, 3, 64, 0}, one_block = {4, 1, 64, 0};
     const slipseal_session checks[] = {
         slipseal_start_check(five, key, 16, 0, printed, 8).session, fed(printed), record_of(short_of_bits, 9, 8),
         record_of(one_block, 0, 8)};
@@ -223,7 +223,7 @@ static void spare_bits(void)
 /* A message that ends within a byte is checked as in one call, and takes no bits after it. */
 static void part_byte(void)
 {
-    const slipseal_agreement a = {1, 2, 64};
+    const slipseal_agreement a = {1, 2, 64, 0};
     uint8_t tag[8];
     slipseal_step step;
     expect(is(slipseal_make(a, key, 16, message, 6, 43, tag, 8), 0, 1, 1), "the tag of 43 bits");

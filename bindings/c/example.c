@@ -1,7 +1,7 @@
 /* Writes one lot slip, reads it back as a scanner delivers it, in odd lengths, and says what it is. Then a slip comes in one read
- * whose tag fits, but over one bit, which was not agreed. Last a certificate comes, its tag first and then its text in reads, and
- * is checked as it comes; and once more with one letter changed. The first slip and the key are those of the documents' example:
- * 4 November 2026, lot A7, 500 microlitres. */
+ * whose tag fits, but over one bit, which was not agreed; and one of a supplier who sends a single master key. Last a certificate
+ * comes, its tag first and then its text in reads, and is checked as it comes; and once more with one letter changed. The first slip
+ * and the key are those of the documents' example: 4 November 2026, lot A7, 500 microlitres. */
 #define _POSIX_C_SOURCE 200809L
 #include <errno.h>
 #include <inttypes.h>
@@ -13,8 +13,11 @@
 static const uint8_t key[16] = {0x01, 0x23, 0x45, 0x67, 0x89, 0xAB, 0xCD, 0xEF, 0xFE, 0xDC, 0xBA, 0x98, 0x76, 0x54, 0x32, 0x10};
 static const uint8_t lot[2] = {'A', '7'};
 
-/* Algorithm, padding and m, as agreed with the supplier: from the program's own records, never from a slip. */
-static const slipseal_agreement agreement = {5, 4, 64};
+/* Algorithm, padding, m and no master, as agreed with the supplier: from the program's own records, never from a slip. */
+static const slipseal_agreement agreement = {5, 4, 64, 0};
+
+/* With another supplier: algorithm 6, whose two keys are derived from one of 16 bytes, the master. */
+static const slipseal_agreement under_master = {6, 1, 64, 1};
 
 /* The tag of a certificate, 8 bytes, and its text. */
 static uint8_t certificate[] = "\x69\x2C\x43\x71\x00\xF3\xB5\xEE" "This is the test message for mac";
@@ -112,7 +115,7 @@ static int say_certificate(void)
 
 int main(void)
 {
-    const slipseal_agreement one_bit = {5, 4, 1};
+    const slipseal_agreement one_bit = {5, 4, 1, 0};
     slipseal_written written;
     slipseal_gathered gathered = {0};
     uint8_t slip[75]; /* the longest there is */
@@ -137,6 +140,11 @@ int main(void)
 
     written = slipseal_write(one_bit, key, sizeof key, 2026, 11, 4, lot, sizeof lot, 500, slip, sizeof slip);
     if (say(slipseal_read(agreement, key, sizeof key, slip, written.length), slip) != 25) {
+        return 1;
+    }
+
+    written = slipseal_write(under_master, key, sizeof key, 2026, 11, 4, lot, sizeof lot, 500, slip, sizeof slip);
+    if (say(slipseal_read(under_master, key, sizeof key, slip, written.length), slip) != 0) {
         return 1;
     }
 

@@ -45,6 +45,7 @@ static inline slipseal_agreement agreed(uint64_t algorithm, uint64_t padding, ui
     agreement.algorithm = algorithm;
     agreement.padding = padding;
     agreement.m = m;
+    agreement.master = 0;
     return agreement;
 }
 

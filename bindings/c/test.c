@@ -1,6 +1,6 @@
 /* Tests of the header against the library: the layout of the structs, and each function accepted and refused, with all that it
- * hands back. Checks in a session are in checking.c, lost blocks in restoring.c. The many inputs are tried by the Rust and Python
- * tests. */
+ * hands back. Checks in a session are in checking.c, lost blocks in restoring.c, masters in master.c. The many inputs are tried by
+ * the Rust and Python tests. */
 #include "expect.h"
 
 /* 4 November 2026, lot A7, 500 microlitres, under algorithm 5, padding 4, 64 bits. */
@@ -9,22 +9,23 @@ static const uint8_t example[37] = {
     0x02, 0x00, 0x02, 'A', '7',
     0x03, 0x00, 0x04, 0x00, 0x00, 0x01, 0xF4,
     0x7F, 0x00, 0x0B, 5, 4, 64, 0xA4, 0x7A, 0x92, 0x99, 0xC7, 0xB8, 0x45, 0x6C};
-static const slipseal_agreement example_agreed = {5, 4, 64};
+static const slipseal_agreement example_agreed = {5, 4, 64, 0};
 static const slipseal_slip example_read = {0, 2026, 11, 4, 500, 3, 14, 2};
 
 static void layout(void)
 {
     expect(sizeof(slipseal_answer) == 24, "size of an answer");
-    expect(sizeof(slipseal_agreement) == 24, "size of an agreement");
+    expect(sizeof(slipseal_agreement) == 32, "size of an agreement");
     expect(offsetof(slipseal_agreement, padding) == 8 && offsetof(slipseal_agreement, m) == 16, "order in an agreement");
-    expect(sizeof(slipseal_session) == 144, "size of a session");
+    expect(offsetof(slipseal_agreement, master) == 24, "place of the master");
+    expect(sizeof(slipseal_session) == 152, "size of a session");
     expect(offsetof(slipseal_session, purpose) == 16, "place of the purpose");
     expect(offsetof(slipseal_session, agreement) == 24, "place of the agreement");
-    expect(offsetof(slipseal_session, declared) == 48, "place of the declared length");
-    expect(offsetof(slipseal_session, keys) == 64, "place of the keys");
-    expect(offsetof(slipseal_session, held) == 112, "place of the waiting block");
-    expect(offsetof(slipseal_session, expected) == 128, "place of the expected tag");
-    expect(sizeof(slipseal_step) == 168, "size of a step");
+    expect(offsetof(slipseal_session, declared) == 56, "place of the declared length");
+    expect(offsetof(slipseal_session, keys) == 72, "place of the keys");
+    expect(offsetof(slipseal_session, held) == 120, "place of the waiting block");
+    expect(offsetof(slipseal_session, expected) == 136, "place of the expected tag");
+    expect(sizeof(slipseal_step) == 176, "size of a step");
     expect(sizeof(slipseal_slip) == 64, "size of a slip");
     expect(sizeof(slipseal_gathered) == 88, "size of a gathered slip");
     expect(offsetof(slipseal_gathered, count) == 0 && offsetof(slipseal_gathered, bytes) == 8, "order in a gathered slip");
@@ -168,9 +169,9 @@ typedef struct sealed {
 } sealed;
 
 static const sealed seals[3] = {
-    {{5, 4, 64}, 16, 3, 14, {0x7F, 0x00, 0x0B, 5, 4, 64, 0xA4, 0x7A, 0x92, 0x99, 0xC7, 0xB8, 0x45, 0x6C}},
-    {{2, 2, 64}, 32, 3, 14, {0x7F, 0x00, 0x0B, 2, 2, 64, 0x25, 0xBE, 0x21, 0xF5, 0xFD, 0xEE, 0x57, 0xF4}},
-    {{1, 1, 12}, 16, 2, 8, {0x7F, 0x00, 0x05, 1, 1, 12, 0xA3, 0x30}}};
+    {{5, 4, 64, 0}, 16, 3, 14, {0x7F, 0x00, 0x0B, 5, 4, 64, 0xA4, 0x7A, 0x92, 0x99, 0xC7, 0xB8, 0x45, 0x6C}},
+    {{2, 2, 64, 0}, 32, 3, 14, {0x7F, 0x00, 0x0B, 2, 2, 64, 0x25, 0xBE, 0x21, 0xF5, 0xFD, 0xEE, 0x57, 0xF4}},
+    {{1, 1, 12, 0}, 16, 2, 8, {0x7F, 0x00, 0x05, 1, 1, 12, 0xA3, 0x30}}};
 
 static slipseal_slip read_sealed(slipseal_agreement agreement, size_t keys_len, const uint8_t *seal, size_t seal_len)
 {
@@ -248,25 +249,25 @@ static slipseal_slip read_of(reading r)
 static void order_of_reads(void)
 {
     const reading refused[] = {
-        {24, {9, 9, 999}, 3, {5, 4, 64}, 8, 1},
-        {25, {9, 9, 999}, 3, {5, 4, 64}, 9, 0},
-        {25, {9, 4, 64}, 3, {5, 4, 64}, 9, 0},
-        {25, {5, 4, 64}, 3, {9, 4, 64}, 9, 0},
-        {1, {9, 9, 255}, 3, {9, 9, 255}, 9, 0},
-        {25, {5, 9, 64}, 3, {5, 4, 64}, 9, 0},
-        {25, {5, 4, 64}, 3, {5, 9, 64}, 9, 0},
-        {2, {5, 9, 255}, 3, {5, 9, 255}, 9, 0},
-        {25, {5, 4, 255}, 3, {5, 4, 64}, 9, 0},
-        {25, {5, 4, 64}, 3, {5, 4, 255}, 9, 0},
-        {3, {5, 4, 255}, 3, {5, 4, 255}, 9, 0},
-        {25, {5, 4, 64}, 3, {5, 4, 63}, 9, 0},
-        {4, {5, 4, 64}, 3, {5, 4, 64}, 9, 0},
-        {25, {2, 2, 64}, 32, {2, 1, 64}, 9, 0},
-        {5, {2, 2, 64}, 32, {2, 2, 64}, 9, 0},
-        {25, {5, 4, 72}, 16, {5, 4, 64}, 9, 0},
-        {10, {5, 4, 64}, 16, {5, 4, 64}, 9, 0},
-        {25, {5, 4, 64}, 16, {8, 4, 64}, 8, 0},
-        {30, {8, 4, 64}, 16, {8, 4, 64}, 8, 0}};
+        {24, {9, 9, 999, 0}, 3, {5, 4, 64}, 8, 1},
+        {25, {9, 9, 999, 0}, 3, {5, 4, 64}, 9, 0},
+        {25, {9, 4, 64, 0}, 3, {5, 4, 64}, 9, 0},
+        {25, {5, 4, 64, 0}, 3, {9, 4, 64}, 9, 0},
+        {1, {9, 9, 255, 0}, 3, {9, 9, 255}, 9, 0},
+        {25, {5, 9, 64, 0}, 3, {5, 4, 64}, 9, 0},
+        {25, {5, 4, 64, 0}, 3, {5, 9, 64}, 9, 0},
+        {2, {5, 9, 255, 0}, 3, {5, 9, 255}, 9, 0},
+        {25, {5, 4, 255, 0}, 3, {5, 4, 64}, 9, 0},
+        {25, {5, 4, 64, 0}, 3, {5, 4, 255}, 9, 0},
+        {3, {5, 4, 255, 0}, 3, {5, 4, 255}, 9, 0},
+        {25, {5, 4, 64, 0}, 3, {5, 4, 63}, 9, 0},
+        {4, {5, 4, 64, 0}, 3, {5, 4, 64}, 9, 0},
+        {25, {2, 2, 64, 0}, 32, {2, 1, 64}, 9, 0},
+        {5, {2, 2, 64, 0}, 32, {2, 2, 64}, 9, 0},
+        {25, {5, 4, 72, 0}, 16, {5, 4, 64}, 9, 0},
+        {10, {5, 4, 64, 0}, 16, {5, 4, 64}, 9, 0},
+        {25, {5, 4, 64, 0}, 16, {8, 4, 64}, 8, 0},
+        {30, {8, 4, 64, 0}, 16, {8, 4, 64}, 8, 0}};
     uint8_t unreal[37];
     size_t i;
     for (i = 0; i < sizeof refused / sizeof refused[0]; i++) {
@@ -433,7 +434,7 @@ static int slip_alone(const uint8_t *slip, size_t length)
 
 static void written_and_read(void)
 {
-    const writing w = {0, {5, 4, 64}, 16, 2026, 11, 4, "A7", 2, 500, 80};
+    const writing w = {0, {5, 4, 64, 0}, 16, 2026, 11, 4, "A7", 2, 500, 80};
     slipseal_slip read;
     expect(told(written(w), 0, 37, 3), "write accepted");
     expect(slip_alone(example, 37), "the example's bytes and no more");
@@ -457,33 +458,33 @@ static void refused_writes(void)
     const size_t far = (size_t)1 << 32;
     const writing wrong[] = {
         /* each alone */
-        {22, {5, 4, 64}, 16, 2026, 11, 4, "A7", 0, 500, 80},
-        {22, {5, 4, 64}, 16, 2026, 11, 4, long_lot, 33, 500, 80},
-        {22, {5, 4, 64}, 16, 2026, 11, 4, "A 7", 3, 500, 80},
-        {22, {5, 4, 64}, 16, 2026, 11, 4, "A\x7F", 2, 500, 80},
-        {22, {5, 4, 64}, 16, 2026, 11, 4, "A7", 2, 0, 80},
-        {22, {5, 4, 64}, 16, 2026, 11, 4, "A7", 2, 1000001, 80},
-        {22, {5, 4, 64}, 16, 2026, 11, 4, "A7", 2, far + 500, 80},
-        {23, {5, 4, 64}, 16, 1999, 11, 4, "A7", 2, 500, 80},
-        {23, {5, 4, 64}, 16, 2100, 11, 4, "A7", 2, 500, 80},
-        {23, {5, 4, 64}, 16, 2026, 0, 4, "A7", 2, 500, 80},
-        {23, {5, 4, 64}, 16, 2026, 13, 4, "A7", 2, 500, 80},
-        {23, {5, 4, 64}, 16, 2026, 11, 0, "A7", 2, 500, 80},
-        {23, {5, 4, 64}, 16, 2026, 11, 31, "A7", 2, 500, 80},
-        {23, {5, 4, 64}, 16, 2023, 2, 29, "A7", 2, 500, 80},
-        {23, {5, 4, 64}, 16, far + 2026, 11, 4, "A7", 2, 500, 80},
-        {23, {5, 4, 64}, 16, 2026, far + 11, 4, "A7", 2, 500, 80},
-        {23, {5, 4, 64}, 16, 2026, 11, far + 4, "A7", 2, 500, 80},
+        {22, {5, 4, 64, 0}, 16, 2026, 11, 4, "A7", 0, 500, 80},
+        {22, {5, 4, 64, 0}, 16, 2026, 11, 4, long_lot, 33, 500, 80},
+        {22, {5, 4, 64, 0}, 16, 2026, 11, 4, "A 7", 3, 500, 80},
+        {22, {5, 4, 64, 0}, 16, 2026, 11, 4, "A\x7F", 2, 500, 80},
+        {22, {5, 4, 64, 0}, 16, 2026, 11, 4, "A7", 2, 0, 80},
+        {22, {5, 4, 64, 0}, 16, 2026, 11, 4, "A7", 2, 1000001, 80},
+        {22, {5, 4, 64, 0}, 16, 2026, 11, 4, "A7", 2, far + 500, 80},
+        {23, {5, 4, 64, 0}, 16, 1999, 11, 4, "A7", 2, 500, 80},
+        {23, {5, 4, 64, 0}, 16, 2100, 11, 4, "A7", 2, 500, 80},
+        {23, {5, 4, 64, 0}, 16, 2026, 0, 4, "A7", 2, 500, 80},
+        {23, {5, 4, 64, 0}, 16, 2026, 13, 4, "A7", 2, 500, 80},
+        {23, {5, 4, 64, 0}, 16, 2026, 11, 0, "A7", 2, 500, 80},
+        {23, {5, 4, 64, 0}, 16, 2026, 11, 31, "A7", 2, 500, 80},
+        {23, {5, 4, 64, 0}, 16, 2023, 2, 29, "A7", 2, 500, 80},
+        {23, {5, 4, 64, 0}, 16, far + 2026, 11, 4, "A7", 2, 500, 80},
+        {23, {5, 4, 64, 0}, 16, 2026, far + 11, 4, "A7", 2, 500, 80},
+        {23, {5, 4, 64, 0}, 16, 2026, 11, far + 4, "A7", 2, 500, 80},
         /* with each later one */
-        {22, {9, 9, 999}, 3, 2026, 13, 4, "", 0, 500, 0},
-        {22, {9, 9, 999}, 3, 2026, 13, 4, "A7", 2, 0, 0},
-        {23, {9, 9, 999}, 3, 2026, 13, 4, "A7", 2, 500, 0},
-        {1, {9, 9, 999}, 3, 2026, 11, 4, "A7", 2, 500, 0},
-        {2, {4, 9, 999}, 3, 2026, 11, 4, "A7", 2, 500, 0},
-        {3, {4, 1, 999}, 3, 2026, 11, 4, "A7", 2, 500, 0},
-        {4, {4, 1, 64}, 3, 2026, 11, 4, "A7", 2, 500, 0},
-        {5, {4, 1, 64}, 32, 2026, 11, 4, "A7", 2, 500, 0},
-        {10, {3, 1, 64}, 32, 2026, 11, 4, "A7", 2, 500, 0}};
+        {22, {9, 9, 999, 0}, 3, 2026, 13, 4, "", 0, 500, 0},
+        {22, {9, 9, 999, 0}, 3, 2026, 13, 4, "A7", 2, 0, 0},
+        {23, {9, 9, 999, 0}, 3, 2026, 13, 4, "A7", 2, 500, 0},
+        {1, {9, 9, 999, 0}, 3, 2026, 11, 4, "A7", 2, 500, 0},
+        {2, {4, 9, 999, 0}, 3, 2026, 11, 4, "A7", 2, 500, 0},
+        {3, {4, 1, 999, 0}, 3, 2026, 11, 4, "A7", 2, 500, 0},
+        {4, {4, 1, 64, 0}, 3, 2026, 11, 4, "A7", 2, 500, 0},
+        {5, {4, 1, 64, 0}, 32, 2026, 11, 4, "A7", 2, 500, 0},
+        {10, {3, 1, 64, 0}, 32, 2026, 11, 4, "A7", 2, 500, 0}};
     size_t i;
     for (i = 0; i < sizeof wrong / sizeof wrong[0]; i++) {
         expect(told(written(wrong[i]), wrong[i].number, 0, 0), "a refused write has its number and zeros");
@@ -505,9 +506,9 @@ static int refused_short(writing w, size_t length)
 static void rooms(void)
 {
     const writing fits[] = {
-        {0, {5, 4, 64}, 16, 2026, 11, 4, "A7", 2, 500, 37},
-        {0, {1, 1, 1}, 16, 2000, 1, 1, "!", 1, 1, 29},
-        {0, {1, 1, 128}, 16, 2096, 2, 29, long_lot, 32, 1000000, 75}};
+        {0, {5, 4, 64, 0}, 16, 2026, 11, 4, "A7", 2, 500, 37},
+        {0, {1, 1, 1, 0}, 16, 2000, 1, 1, "!", 1, 1, 29},
+        {0, {1, 1, 128, 0}, 16, 2096, 2, 29, long_lot, 32, 1000000, 75}};
     size_t i;
     for (i = 0; i < sizeof fits / sizeof fits[0]; i++) {
         const writing w = fits[i];

@@ -6,14 +6,16 @@ into results. It loads the shared library that SLIPSEAL_LIB names, else the one 
 A message is bytes and a count of bits, the highest bit of a byte first; without a count all bits are meant. The bytes are exactly
 as many as hold the bits, and spare bits of the last byte have no influence.
 
-What was agreed on how a tag is made is an Agreement: algorithm, padding and m, the tag's number of bits. It comes from the caller's
-own records and never from what is checked under it.
+What was agreed on how a tag is made is an Agreement: algorithm, padding, m, the tag's number of bits, and whether a master is in
+use. It comes from the caller's own records and never from what is checked under it.
 
-    algorithm     padding   key bytes       m
-    1             1 to 3    16              1 to 128
-    2, 3, 4, 6    1 to 3    32, K then K'   1 to 128
-    5, 8          4         16              1 to 128
-    7             4         16              1 to 63
+    algorithm     padding   key bytes       under a master          m
+    1             1 to 3    16              refused                 1 to 128
+    2, 6          1 to 3    32, K then K'   16, the master          1 to 128
+    3             1 to 3    32, K then K'   refused                 1 to 128
+    4             1 to 3    32, K then K'   32, K then the master   1 to 128
+    5, 8          4         16              refused                 1 to 128
+    7             4         16              refused                 1 to 63
 
 A call that is not allowed raises Refused with the number and the words of docs/ANSWERS.md; nothing has then changed. A number
 below 0 or over 2**64 - 1 cannot be handed over and raises ValueError.
@@ -52,7 +54,7 @@ WORDS = {
     1: "the algorithm is not one of 1 to 8",
     2: "the padding does not belong to the algorithm",
     3: "the tag's number of bits is not allowed for the algorithm",
-    4: "the keys have the wrong length for the algorithm",
+    4: "the keys have the wrong length for the algorithm, or it takes no master",
     5: "the first key is the same as another and must differ",
     6: "the second key is the same as the third and must differ",
     7: "the message has the wrong number of bytes for its bits",
@@ -86,11 +88,27 @@ class Refused(Exception):
 
 class Agreement(NamedTuple):
     """What was agreed. Any numbers may stand here; the calls refuse those that are not allowed, with 1, 2 and 3, or read_slip with
-    25 where the slip names others."""
+    25 where the slip names others.
+
+    A supplier may send one key, the master, of which two are derived by key derivation method 1 of the standard (6.2.2): the first
+    is the number 1 and the second the number 2, each written as a block of 128 bits and enciphered under the master. They serve as K
+    and K' in algorithms 2 and 6, and as K' and K'' in algorithm 4. The number of calls that is reported for a tag or a slip is 2
+    larger under a master. Refusal 4 is also for a master with another algorithm, and 5 for a K that is one of the derived keys.
+    master is False or True; as a number, 0 is no and any other yes.
+
+    >>> master = bytes.fromhex("0123456789ABCDEFFEDCBA9876543210")
+    >>> agreement = Agreement(algorithm=6, padding=1, m=64, master=True)
+    >>> made = make(agreement, master, b"This is the test message for mac")
+    >>> made.tag.hex(), made.calls
+    ('b38a96195baa61fc', 4)
+    >>> check(agreement, master, b"This is the test message for mac", made.tag)
+    Checked(yes=True, calls=4)
+    """
 
     algorithm: int
     padding: int
     m: int
+    master: bool = False
 
 
 class Made(NamedTuple):
@@ -337,8 +355,11 @@ def read_slip(agreement: Agreement, keys: Bytes, slip: Bytes) -> Slip:
     Refused with 20 to 24 for the slip's form, field by field; 25 where its seal names another algorithm, padding or m than agreed,
     however well the tag fits; then 1 to 6, 10, and 30 where the seal is wrong.
 
-    An accepted slip names exactly the agreement. Its tag covers all bytes before field 7F, and under one agreement and keys two
-    accepted slips with the same bytes before field 7F are one slip.
+    A slip does not name the master, and 25 does not look at it: whether one is in use is the agreement's alone to say. Where it says
+    so wrongly, the slip is judged under other keys, and as a rule gets 4 or 30.
+
+    An accepted slip names exactly the agreement's algorithm, padding and m. Its tag covers all bytes before field 7F, and under one
+    agreement and keys two accepted slips with the same bytes before field 7F are one slip.
 
     >>> key = bytes.fromhex("0123456789ABCDEFFEDCBA9876543210")
     >>> agreement = Agreement(algorithm=5, padding=4, m=64)  # from what is on file for the supplier
@@ -564,7 +585,7 @@ class _Written(ctypes.Structure):
 
 
 def _agreed(agreement: Agreement) -> _Agreement:
-    return _Agreement(*_numbers(agreement.algorithm, agreement.padding, agreement.m))
+    return _Agreement(*_numbers(agreement.algorithm, agreement.padding, agreement.m, agreement.master))
 
 
 def _made(room: "ctypes.Array[ctypes.c_uint8]", m: int, answer: _Answer) -> Made:

@@ -74,15 +74,15 @@ class Sessions(Case):
             self.assertIs(bool(answer), yes)
             self.assertEqual(answer.calls, 3)
             self.assertTrue(session.closed)
-            self.assertEqual(bytes(session._record), bytes(144))
+            self.assertEqual(bytes(session._record), bytes(152))
             self.refused(11, session.piece, b"")
             self.refused(11, session.finish)
 
     def test_the_record(self):
         """That of a session for making, with the purpose and the tag beside it, spare bits too."""
         making = bytearray(bytes(Session(Agreement(1, 2, 12), KEY)._record))
-        self.assertEqual((making[16:24], making[128:]), (bytes(8), bytes(16)))
-        making[16], making[128:130] = 1, b"\xA3\x31"
+        self.assertEqual((making[16:24], making[136:]), (bytes(8), bytes(16)))
+        making[16], making[136:138] = 1, b"\xA3\x31"
         step = slipseal._library.slipseal_start_check(slipseal._agreed(Agreement(1, 2, 12)), KEY, 16, 0, b"\xA3\x31", 2)
         self.assertEqual((bytes(step.answer), bytes(step.session)), (bytes(24), making))
         session = CheckingSession(Agreement(1, 2, 12), KEY, 0, b"\xA3\x31")
@@ -110,7 +110,7 @@ class Sessions(Case):
                 step = slipseal._library.slipseal_start_check(
                     slipseal._agreed(Agreement(*agreed)), keys, len(keys), declared, bytes(tag), tag
                 )
-                self.assertEqual(bytes(step), number.to_bytes(8, "little") + bytes(160))
+                self.assertEqual(bytes(step), number.to_bytes(8, "little") + bytes(168))
         CheckingSession(Agreement(1, 2, 64), KEY, 2**64 - 1, bytes(8))
 
     def test_refusals_leave_the_session(self):

@@ -1,7 +1,7 @@
 """Tests of slipseal.py: annex A in one call and in pieces, the runs R4 to R7 of the requirements, slips written and read, slips
 that name something else than was agreed, slips that come in odd lengths, every refusal with its words, records that no call handed
 out, and what Python alone can get wrong (numbers too large, other kinds of bytes and of files, what is no date, a "no" taken for
-true). Checks in a session and of files are in test_checking.py, lost blocks in test_restoring.py.
+true). Checks in a session and of files are in test_checking.py, lost blocks in test_restoring.py, masters in test_master.py.
 
     python3 -m unittest          in this folder
 """
@@ -242,7 +242,7 @@ class Sessions(Case):
             self.assertFalse(session.closed)
             session.finish()
             self.assertTrue(session.closed)
-            self.assertEqual(bytes(session._record), bytes(144))
+            self.assertEqual(bytes(session._record), bytes(152))
             self.refused(11, session.piece, b"")
             self.refused(11, session.finish)
 
@@ -281,7 +281,7 @@ class Sessions(Case):
 
     def test_the_record_holds_the_agreement(self):
         record = Session(Agreement(1, 2, 64), KEY)._record
-        self.assertEqual(bytes(record)[24:48], bytes.fromhex("01" + "00" * 7 + "02" + "00" * 7 + "40" + "00" * 7))
+        self.assertEqual(bytes(record)[24:56], bytes.fromhex("01" + "00" * 7 + "02" + "00" * 7 + "40" + "00" * 15))
 
 
 class Slips(Case):
@@ -315,9 +315,9 @@ class Slips(Case):
             slip = COVERED + bytes.fromhex(seal)
             wrong = slip[:-1] + bytes([slip[-1] ^ 1])
             self.slip_refused(30, agreement, keys, wrong)
-            for name, number in agreement._asdict().items():
+            for name in ("algorithm", "padding", "m"):
                 for off in (-1, 1, 2**8, 2**16, 2**32, 2**63):
-                    other = agreement._replace(**{name: number + off})
+                    other = agreement._replace(**{name: getattr(agreement, name) + off})
                     with self.subTest(other=other):
                         self.slip_refused(25, other, keys, slip)
                         self.slip_refused(25, other, keys, wrong)
@@ -637,7 +637,8 @@ class Words(Case):
 class Handed(Case):
     def test_numbers_that_do_not_fit(self):
         for number in (-1, 2**64, 2**64 + 1):
-            for agreement in (Agreement(number, 1, 64), Agreement(1, number, 64), Agreement(1, 1, number)):
+            for agreed in ((number, 1, 64), (1, number, 64), (1, 1, number), (1, 1, 64, number)):
+                agreement = Agreement(*agreed)
                 self.assertRaises(ValueError, make, agreement, KEY, b"")
                 self.assertRaises(ValueError, check, agreement, KEY, b"", bytes(8))
                 self.assertRaises(ValueError, Session, agreement, KEY)

@@ -30,7 +30,7 @@ const CHUNK: usize = 32 << 10;
 /// let key = [
 ///     0x01, 0x23, 0x45, 0x67, 0x89, 0xAB, 0xCD, 0xEF, 0xFE, 0xDC, 0xBA, 0x98, 0x76, 0x54, 0x32, 0x10,
 /// ];
-/// let agreement = Agreement { algorithm: 5, padding: 4, m: 64 }; // from what is on file for the supplier
+/// let agreement = Agreement { algorithm: 5, padding: 4, m: 64, master: false }; // from what is on file for the supplier
 /// let bytes = b"\x69\x2C\x43\x71\x00\xF3\xB5\xEEThis is the test message for mac";
 ///
 /// let mut scanner = bytes[..20].chain(&bytes[20..]); // or a file, a pipe, a serial line
@@ -95,7 +95,7 @@ fn at_the_end(session: CheckingSession) -> Checked<Refusal> {
 /// ```
 /// use slipseal::{check_file, make, Agreement, Checked};
 ///
-/// let agreement = Agreement { algorithm: 1, padding: 3, m: 64 };
+/// let agreement = Agreement { algorithm: 1, padding: 3, m: 64, master: false };
 /// # let path = std::env::temp_dir().join(format!("slipseal-{}", std::process::id()));
 /// std::fs::write(&path, b"certificate of analysis")?;
 /// # let mut room = [0; 8];

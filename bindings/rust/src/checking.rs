@@ -14,7 +14,7 @@ use crate::{raw, session, Agreement, Checked, Refusal, Session};
 /// let key = [
 ///     0x01, 0x23, 0x45, 0x67, 0x89, 0xAB, 0xCD, 0xEF, 0xFE, 0xDC, 0xBA, 0x98, 0x76, 0x54, 0x32, 0x10,
 /// ];
-/// let agreement = Agreement { algorithm: 5, padding: 4, m: 64 };
+/// let agreement = Agreement { algorithm: 5, padding: 4, m: 64, master: false };
 /// let tag = [0x69, 0x2C, 0x43, 0x71, 0x00, 0xF3, 0xB5, 0xEE];
 /// let mut session = Session::check(agreement, &key, 0, &tag)?;
 /// for page in [&b"This is the test "[..], b"message", b" for mac"] {
@@ -33,7 +33,7 @@ use crate::{raw, session, Agreement, Checked, Refusal, Session};
 /// ```compile_fail,E0308
 /// use slipseal::{Agreement, Session};
 ///
-/// let agreement = Agreement { algorithm: 5, padding: 4, m: 64 };
+/// let agreement = Agreement { algorithm: 5, padding: 4, m: 64, master: false };
 /// let session = Session::check(agreement, &[7; 16], 0, &[0; 8])?;
 /// Session::finish(session, &mut [0; 8])?;
 /// # Ok::<(), Box<dyn std::error::Error>>(())
@@ -44,7 +44,7 @@ use crate::{raw, session, Agreement, Checked, Refusal, Session};
 /// ```compile_fail,E0308
 /// use slipseal::{Agreement, CheckingSession, Session};
 ///
-/// let agreement = Agreement { algorithm: 5, padding: 4, m: 64 };
+/// let agreement = Agreement { algorithm: 5, padding: 4, m: 64, master: false };
 /// let session = Session::start(agreement, &[7; 16], 0)?;
 /// assert!(CheckingSession::finish(session).is_yes());
 /// # Ok::<(), slipseal::Refusal>(())
@@ -73,7 +73,7 @@ impl Session {
         declared: usize,
         tag: &[u8],
     ) -> Result<CheckingSession, Refusal> {
-        let step = raw::start_check(agreement, keys, declared, tag);
+        let step = raw::start_check(agreement.into(), keys, declared, tag);
         Refusal::of(step.answer.number)?;
         Ok(CheckingSession { record: step.session })
     }

@@ -8,14 +8,14 @@ use std::mem::offset_of;
 
 const KEY: [u8; 16] = *b"\x01\x23\x45\x67\x89\xAB\xCD\xEF\xFE\xDC\xBA\x98\x76\x54\x32\x10";
 
-const PLAIN: Agreement = Agreement { algorithm: 1, padding: 1, m: 128 };
+const PLAIN: Agreement = Agreement { algorithm: 1, padding: 1, m: 128, master: false };
 
 /// Closed, as it is handed out.
 const ZEROS: Record = Record {
     phase: 0,
     part: 0,
     purpose: 0,
-    agreement: Agreement { algorithm: 0, padding: 0, m: 0 },
+    agreement: raw::Agreement { algorithm: 0, padding: 0, m: 0, master: 0 },
     declared: 0,
     total: 0,
     keys: [0; 32],
@@ -87,16 +87,17 @@ fn closed_to_making(record: Record) -> bool {
 
 #[test]
 fn layout_is_that_of_the_header() {
-    assert_eq!(size_of::<Agreement>(), 24);
-    assert_eq!(offset_of!(Agreement, padding), 8);
-    assert_eq!(offset_of!(Agreement, m), 16);
-    assert_eq!(size_of::<Record>(), 144);
+    assert_eq!(size_of::<raw::Agreement>(), 32);
+    assert_eq!(offset_of!(raw::Agreement, padding), 8);
+    assert_eq!(offset_of!(raw::Agreement, m), 16);
+    assert_eq!(offset_of!(raw::Agreement, master), 24);
+    assert_eq!(size_of::<Record>(), 152);
     assert_eq!(offset_of!(Record, purpose), 16);
     assert_eq!(offset_of!(Record, agreement), 24);
-    assert_eq!(offset_of!(Record, declared), 48);
-    assert_eq!(offset_of!(Record, held), 112);
-    assert_eq!(offset_of!(Record, expected), 128);
-    assert_eq!(size_of::<raw::Step>(), 168);
+    assert_eq!(offset_of!(Record, declared), 56);
+    assert_eq!(offset_of!(Record, held), 120);
+    assert_eq!(offset_of!(Record, expected), 136);
+    assert_eq!(size_of::<raw::Step>(), 176);
     assert_eq!(size_of::<raw::Slip>(), 64);
     assert_eq!(size_of::<raw::Gathered>(), 88);
     assert_eq!(offset_of!(raw::Gathered, count), 0);
@@ -111,7 +112,7 @@ fn a_start_leaves_what_it_says() {
     let record = opened();
     let Record { phase, part, purpose, agreement, declared, total, .. } = record;
     assert_eq!([phase, part, purpose, declared, total], [1, 0, 0, 0, 8]);
-    assert_eq!(agreement, PLAIN);
+    assert_eq!(agreement, PLAIN.into());
     assert_eq!(record.keys[..16], KEY);
     assert_eq!(record.keys[16..], [0; 16]);
     assert_eq!(record.chain, [0; 16]);
@@ -125,10 +126,10 @@ fn a_start_of_a_check_leaves_what_it_says() {
     for m in 1..=128 {
         let agreement = Agreement { m, ..PLAIN };
         let tag = [0xB7; 16];
-        let step = raw::start_check(agreement, &KEY, 0, &tag[..agreement.tag_bytes()]);
+        let step = raw::start_check(agreement.into(), &KEY, 0, &tag[..agreement.tag_bytes()]);
         let mut expected = [0; 16];
         expected[..agreement.tag_bytes()].fill(0xB7);
-        let making = raw::start(agreement, &KEY, 0).session;
+        let making = raw::start(agreement.into(), &KEY, 0).session;
         assert_eq!(numbers(step), [0, 0, 0], "m {m}");
         assert!(step.session == Record { purpose: 1, expected, ..making }, "m {m}");
         let step = raw::piece(step.session, b"a", 8);
@@ -142,7 +143,7 @@ fn a_refused_start_of_a_check_leaves_zeros() {
     for (algorithm, declared, tag, number) in
         [(9, 0, 8, 1), (1, 8_388_609, 8, 8), (1, 0, 7, 10), (1, 0, 9, 10)]
     {
-        let agreement = Agreement { algorithm, padding: 3, m: 64 };
+        let agreement = raw::Agreement { algorithm, padding: 3, m: 64, master: 0 };
         let step = raw::start_check(agreement, &KEY, declared, &[0xB7; 9][..tag]);
         assert_eq!(numbers(step), [number, 0, 0]);
         assert!(step.session == ZEROS, "a start refused with {number}");
@@ -181,7 +182,7 @@ fn agreements_that_a_start_would_refuse() {
             .into_iter()
             .chain([(1, 1, 0), (1, 1, 129), (1, 1, 1 << 32 | 64), (7, 4, 64), (5, 3, 64)])
     {
-        let record = forged(|r| r.agreement = Agreement { algorithm, padding, m });
+        let record = forged(|r| r.agreement = raw::Agreement { algorithm, padding, m, master: 0 });
         assert!(counts_closed(record), "algorithm {algorithm}, padding {padding}, m {m}");
     }
     for algorithm in [2, 4, 6] {
@@ -241,7 +242,7 @@ fn odd_purposes() {
 #[test]
 fn the_finish_of_the_other_purpose() {
     for (algorithm, padding, declared) in [(1, 1, 0), (1, 3, 9), (4, 1, 0)] {
-        let agreement = Agreement { algorithm, padding, m: 64 };
+        let agreement = raw::Agreement { algorithm, padding, m: 64, master: 0 };
         let making = forged(|r| (r.agreement, r.declared) = (agreement, declared));
         let checking = Record { purpose: 1, ..making };
         for room in [&mut [0xAA; 16][..], &mut []] {
@@ -296,7 +297,7 @@ fn the_bytes_that_are_compared() {
         for place in 0..128 {
             let mut expected = right;
             expected[place / 8] ^= 0x80 >> (place % 8);
-            let record = forged(|r| (r.purpose, r.agreement, r.expected) = (1, agreement, expected));
+            let record = forged(|r| (r.purpose, r.agreement, r.expected) = (1, agreement.into(), expected));
             let past = place / 8 >= agreement.tag_bytes();
             assert_eq!(numbers(raw::finish_check(record)), [0, past.into(), 1], "m {m}, bit {place}");
         }
@@ -309,7 +310,8 @@ fn a_refusal_hands_back_the_very_record() {
     let any = u64::MAX;
     let odd = |algorithm, padding, declared, total| {
         forged(|r| {
-            (r.agreement, r.declared, r.total) = (Agreement { algorithm, padding, m: 64 }, declared, total);
+            r.agreement = raw::Agreement { algorithm, padding, m: 64, master: 0 };
+            (r.declared, r.total) = (declared, total);
             r.keys[16..].fill(0xC3);
             r.chain.fill(0x5A);
             r.expected.fill(0x77);

@@ -10,7 +10,7 @@
 //! let key = [
 //!     0x01, 0x23, 0x45, 0x67, 0x89, 0xAB, 0xCD, 0xEF, 0xFE, 0xDC, 0xBA, 0x98, 0x76, 0x54, 0x32, 0x10,
 //! ];
-//! let agreement = Agreement { algorithm: 5, padding: 4, m: 64 };
+//! let agreement = Agreement { algorithm: 5, padding: 4, m: 64, master: false };
 //! let message = b"This is the test message for mac";
 //! let mut room = [0; 16];
 //! let made = make(agreement, &key, message, 256, &mut room)?;
@@ -45,19 +45,46 @@ pub use slip::{read_slip, write_slip, Contents, Slip, Written};
 /// numbers may stand here; the calls refuse those that are not allowed, with 1, 2 and 3, or [`read_slip`] with 25 where the slip
 /// names others.
 ///
-/// | algorithm | padding | key bytes | m |
-/// |---|---|---|---|
-/// | 1 | 1 to 3 | 16 | 1 to 128 |
-/// | 2, 3, 4, 6 | 1 to 3 | 32, K then K' | 1 to 128 |
-/// | 5, 8 | 4 | 16 | 1 to 128 |
-/// | 7 | 4 | 16 | 1 to 63 |
-#[repr(C)]
+/// | algorithm | padding | key bytes | under a master | m |
+/// |---|---|---|---|---|
+/// | 1 | 1 to 3 | 16 | refused | 1 to 128 |
+/// | 2, 6 | 1 to 3 | 32, K then K' | 16, the master | 1 to 128 |
+/// | 3 | 1 to 3 | 32, K then K' | refused | 1 to 128 |
+/// | 4 | 1 to 3 | 32, K then K' | 32, K then the master | 1 to 128 |
+/// | 5, 8 | 4 | 16 | refused | 1 to 128 |
+/// | 7 | 4 | 16 | refused | 1 to 63 |
+///
+/// A supplier may send one key, the master, of which two are derived by key derivation method 1 of the standard (6.2.2): the first
+/// is the number 1 and the second the number 2, each written as a block of 128 bits and enciphered under the master. They serve as
+/// K and K' in algorithms 2 and 6, and as K' and K'' in algorithm 4. The number of calls that is reported for a tag or a slip is 2
+/// larger under a master. Refusal 4 is also for a master with another algorithm, and 5 for a K that is one of the derived keys.
+///
+/// ```
+/// use slipseal::{check, make, Agreement};
+///
+/// let master = [
+///     0x01, 0x23, 0x45, 0x67, 0x89, 0xAB, 0xCD, 0xEF, 0xFE, 0xDC, 0xBA, 0x98, 0x76, 0x54, 0x32, 0x10,
+/// ];
+/// let agreement = Agreement { algorithm: 6, padding: 1, m: 64, master: true };
+/// let message = b"This is the test message for mac";
+/// let mut room = [0; 8];
+/// let made = make(agreement, &master, message, 256, &mut room)?;
+/// assert_eq!(made.tag, [0xB3, 0x8A, 0x96, 0x19, 0x5B, 0xAA, 0x61, 0xFC]);
+/// assert_eq!(made.calls, 4);
+/// assert!(check(agreement, &master, message, 256, made.tag).is_yes());
+///
+/// let refusal = make(Agreement { algorithm: 3, ..agreement }, &master, message, 256, &mut room).unwrap_err();
+/// assert_eq!(refusal.number(), 4); // algorithm 3 takes no master
+/// # Ok::<(), slipseal::Refusal>(())
+/// ```
 #[derive(Clone, Copy, Debug, PartialEq, Eq)]
 pub struct Agreement {
     pub algorithm: u64,
     pub padding: u64,
     /// The tag's number of bits.
     pub m: u64,
+    /// Whether a master is in use.
+    pub master: bool,
 }
 
 impl Agreement {
@@ -114,7 +141,7 @@ impl<R> Checked<R> {
 /// ```
 /// use slipseal::{make, Agreement};
 ///
-/// let agreement = Agreement { algorithm: 7, padding: 4, m: 64 };
+/// let agreement = Agreement { algorithm: 7, padding: 4, m: 64, master: false };
 /// let refusal = make(agreement, &[0; 16], b"", 0, &mut [0; 16]).unwrap_err();
 /// assert_eq!(refusal.number(), 3);
 /// assert_eq!(refusal.to_string(), "refused 3: the tag's number of bits is not allowed for the algorithm");
@@ -126,7 +153,7 @@ pub fn make<'a>(
     bits: usize,
     room: &'a mut [u8],
 ) -> Result<Made<'a>, Refusal> {
-    let answer = raw::make(agreement, keys, message, bits, room);
+    let answer = raw::make(agreement.into(), keys, message, bits, room);
     Refusal::of(answer.number)?;
     Ok(Made { tag: &room[..agreement.tag_bytes()], calls: answer.calls })
 }
@@ -138,11 +165,11 @@ pub fn make<'a>(
 /// ```
 /// use slipseal::{check, Agreement, Checked};
 ///
-/// let agreement = Agreement { algorithm: 1, padding: 1, m: 12 };
+/// let agreement = Agreement { algorithm: 1, padding: 1, m: 12, master: false };
 /// assert_eq!(check(agreement, &[0; 16], b"abc", 24, &[0, 0]), Checked::No { calls: 1 });
 /// ```
 pub fn check(agreement: Agreement, keys: &[u8], message: &[u8], bits: usize, tag: &[u8]) -> Checked {
-    Checked::of(raw::check(agreement, keys, message, bits, tag), |refusal| refusal)
+    Checked::of(raw::check(agreement.into(), keys, message, bits, tag), |refusal| refusal)
 }
 
 /// Works a lost block out of the other bits of a message and its full tag, and puts it where it was. Blocks are whole ones of 128
@@ -161,7 +188,7 @@ pub fn check(agreement: Agreement, keys: &[u8], message: &[u8], bits: usize, tag
 /// ```
 /// use slipseal::{make, restore, Agreement};
 ///
-/// let (key, agreement) = ([7; 16], Agreement { algorithm: 5, padding: 4, m: 128 });
+/// let (key, agreement) = ([7; 16], Agreement { algorithm: 5, padding: 4, m: 128, master: false });
 /// let mut room = [0; 16];
 /// let tag = make(agreement, &key, b"Store below 8 degrees, dry, dark", 256, &mut room)?.tag;
 /// let mut label = *b"Store below 8 de________________";
@@ -179,5 +206,5 @@ pub fn restore(
     block: usize,
     tag: &[u8],
 ) -> Result<(), Refusal> {
-    Refusal::of(raw::restore(agreement, keys, message, bits, block, tag))
+    Refusal::of(raw::restore(agreement.into(), keys, message, bits, block, tag))
 }

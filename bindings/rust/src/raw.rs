@@ -1,8 +1,32 @@
-//! The functions and structs of include/slipseal.h, declared again by hand (the agreement in the crate's root), and each function
-//! with slices for its pointers. This is the one place with `unsafe`: a slice goes as its pointer, which is never null, and its
-//! length. The tests and the benchmark of the repository use it too; everyone else has the functions of the crate's root.
+//! The functions and structs of include/slipseal.h, declared again by hand, and each function with slices for its pointers. This is
+//! the one place with `unsafe`: a slice goes as its pointer, which is never null, and its length. The tests and the benchmark of the
+//! repository use it too; everyone else has the functions of the crate's root.
 
-use crate::{Agreement, Contents};
+use crate::Contents;
+
+/// master: 0 for no, any other number for yes; in a record 0 or 1.
+#[repr(C)]
+#[derive(Clone, Copy, PartialEq, Eq, Debug)]
+pub struct Agreement {
+    pub algorithm: u64,
+    pub padding: u64,
+    pub m: u64,
+    pub master: u64,
+}
+
+impl From<crate::Agreement> for Agreement {
+    fn from(agreement: crate::Agreement) -> Agreement {
+        let crate::Agreement { algorithm, padding, m, master } = agreement;
+        Agreement { algorithm, padding, m, master: master.into() }
+    }
+}
+
+impl From<Agreement> for crate::Agreement {
+    fn from(agreement: Agreement) -> crate::Agreement {
+        let Agreement { algorithm, padding, m, master } = agreement;
+        crate::Agreement { algorithm, padding, m, master: master != 0 }
+    }
+}
 
 #[repr(C)]
 #[derive(Clone, Copy)]

@@ -23,7 +23,7 @@ use crate::{raw, slip, Agreement, Refusal, Slip};
 /// # let bytes = b"\x01\x00\x0820261104\x02\x00\x02A7\x03\x00\x04\x00\x00\x01\xF4\
 /// #     \x7F\x00\x0B\x05\x04\x40\xA4\x7A\x92\x99\xC7\xB8\x45\x6C";
 /// # let mut scanner = bytes[..20].chain(&bytes[20..]);
-/// let agreement = Agreement { algorithm: 5, padding: 4, m: 64 }; // from what is on file for the supplier
+/// let agreement = Agreement { algorithm: 5, padding: 4, m: 64, master: false }; // from what is on file for the supplier
 /// let mut reader = SlipReader::new();
 /// let mut buffer = [0; 64];
 /// loop {
@@ -67,7 +67,7 @@ impl SlipReader {
     /// let key = [
     ///     0x01, 0x23, 0x45, 0x67, 0x89, 0xAB, 0xCD, 0xEF, 0xFE, 0xDC, 0xBA, 0x98, 0x76, 0x54, 0x32, 0x10,
     /// ];
-    /// let agreement = Agreement { algorithm: 5, padding: 4, m: 64 }; // from what is on file for the supplier
+    /// let agreement = Agreement { algorithm: 5, padding: 4, m: 64, master: false }; // from what is on file for the supplier
     /// let bytes = b"\x01\x00\x0820261104\x02\x00\x02A7\x03\x00\x04\x00\x00\x01\xF4\
     ///     \x7F\x00\x0B\x05\x04\x40\xA4\x7A\x92\x99\xC7\xB8\x45\x6C";
     ///
@@ -107,7 +107,7 @@ impl SlipReader {
     ///
     /// Those of [`read_slip`](crate::read_slip).
     pub fn read(&self, agreement: Agreement, keys: &[u8]) -> Result<Slip<'_>, Refusal> {
-        slip::told(raw::read_gathered(agreement, keys, self.record), &self.record.bytes)
+        slip::told(raw::read_gathered(agreement.into(), keys, self.record), &self.record.bytes)
     }
 }
 

@@ -29,7 +29,7 @@ impl Refusal {
             1 => "the algorithm is not one of 1 to 8",
             2 => "the padding does not belong to the algorithm",
             3 => "the tag's number of bits is not allowed for the algorithm",
-            4 => "the keys have the wrong length for the algorithm",
+            4 => "the keys have the wrong length for the algorithm, or it takes no master",
             5 => "the first key is the same as another and must differ",
             6 => "the second key is the same as the third and must differ",
             7 => "the message has the wrong number of bytes for its bits",

@@ -12,7 +12,7 @@ use crate::{raw, Agreement, Made, Refusal};
 /// ```
 /// use slipseal::{Agreement, Session};
 ///
-/// let agreement = Agreement { algorithm: 1, padding: 3, m: 128 };
+/// let agreement = Agreement { algorithm: 1, padding: 3, m: 128, master: false };
 /// let mut session = Session::start(agreement, &[7; 16], 20)?;
 /// session.piece(b"a", 8)?;
 /// let mut room = [0; 16];
@@ -42,7 +42,7 @@ impl Session {
     ///
     /// The first that applies of 1 to 6, rising, then 8 for the declared length.
     pub fn start(agreement: Agreement, keys: &[u8], declared: usize) -> Result<Session, Refusal> {
-        let step = raw::start(agreement, keys, declared);
+        let step = raw::start(agreement.into(), keys, declared);
         Refusal::of(step.answer.number)?;
         Ok(Session { record: step.session })
     }
@@ -68,7 +68,8 @@ impl Session {
         if let Err(refusal) = Refusal::of(step.answer.number) {
             return Err(RefusedFinish { refusal, session: Session { record: step.session } });
         }
-        Ok(Made { tag: &room[..self.record.agreement.tag_bytes()], calls: step.answer.calls })
+        let agreement = Agreement::from(self.record.agreement);
+        Ok(Made { tag: &room[..agreement.tag_bytes()], calls: step.answer.calls })
     }
 }
 
@@ -82,7 +83,7 @@ pub(crate) fn feed(record: &mut raw::Record, bytes: &[u8], bits: usize) -> Resul
 /// Shows the agreement and the bits so far; keys, state and expected tag stay hidden.
 pub(crate) fn show(name: &str, record: &raw::Record, f: &mut fmt::Formatter<'_>) -> fmt::Result {
     f.debug_struct(name)
-        .field("agreement", &record.agreement)
+        .field("agreement", &Agreement::from(record.agreement))
         .field("total", &record.total)
         .finish_non_exhaustive()
 }

@@ -40,8 +40,11 @@ pub struct Written<'a> {
 ///
 /// The bytes are the whole slip. Where it comes in several reads, [`SlipReader`](crate::SlipReader) gathers them first.
 ///
-/// An accepted slip names exactly the agreement. Its tag covers all bytes before field 7F, and under one agreement and keys two
-/// accepted slips with the same bytes before field 7F are one slip.
+/// A slip does not name the master, and 25 does not look at it: whether one is in use is the agreement's alone to say. Where it says
+/// so wrongly, the slip is judged under other keys, and as a rule gets 4 or 30.
+///
+/// An accepted slip names exactly the agreement's algorithm, padding and m. Its tag covers all bytes before field 7F, and under one
+/// agreement and keys two accepted slips with the same bytes before field 7F are one slip.
 ///
 /// # Errors
 ///
@@ -54,7 +57,7 @@ pub struct Written<'a> {
 /// let key = [
 ///     0x01, 0x23, 0x45, 0x67, 0x89, 0xAB, 0xCD, 0xEF, 0xFE, 0xDC, 0xBA, 0x98, 0x76, 0x54, 0x32, 0x10,
 /// ];
-/// let agreement = Agreement { algorithm: 5, padding: 4, m: 64 }; // from what is on file for the supplier
+/// let agreement = Agreement { algorithm: 5, padding: 4, m: 64, master: false }; // from what is on file for the supplier
 /// let bytes = b"\x01\x00\x0820261104\x02\x00\x02A7\x03\x00\x04\x00\x00\x01\xF4\
 ///     \x7F\x00\x0B\x05\x04\x40\xA4\x7A\x92\x99\xC7\xB8\x45\x6C";
 /// let slip = read_slip(agreement, &key, bytes)?;
@@ -75,7 +78,7 @@ pub struct Written<'a> {
 /// # Ok::<(), slipseal::Refusal>(())
 /// ```
 pub fn read_slip<'a>(agreement: Agreement, keys: &[u8], slip: &'a [u8]) -> Result<Slip<'a>, Refusal> {
-    told(raw::read(agreement, keys, slip), slip)
+    told(raw::read(agreement.into(), keys, slip), slip)
 }
 
 /// What is told of a slip, with the lot lent from the bytes that were read; or its refusal.
@@ -100,7 +103,7 @@ pub(crate) fn told(read: raw::Slip, bytes: &[u8]) -> Result<Slip<'_>, Refusal> {
 /// ```
 /// use slipseal::{read_slip, write_slip, Agreement, Contents};
 ///
-/// let (key, agreement) = ([7; 16], Agreement { algorithm: 5, padding: 4, m: 64 });
+/// let (key, agreement) = ([7; 16], Agreement { algorithm: 5, padding: 4, m: 64, master: false });
 /// let contents = Contents { year: 2026, month: 11, day: 4, lot: b"A7", amount: 500 };
 /// let mut room = [0; 75];
 /// let written = write_slip(agreement, &key, contents, &mut room)?;
@@ -121,7 +124,7 @@ pub fn write_slip<'a>(
     contents: Contents<'_>,
     room: &'a mut [u8],
 ) -> Result<Written<'a>, Refusal> {
-    let written = raw::write(agreement, keys, contents, room);
+    let written = raw::write(agreement.into(), keys, contents, room);
     Refusal::of(written.number)?;
     Ok(Written { slip: &room[..written.length as usize], calls: written.calls })
 }

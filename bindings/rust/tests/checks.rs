@@ -141,6 +141,6 @@ fn keys_and_tag_are_not_shown() {
     let session = Session::check(agreed(1, 1, 12), &[0xC5; 16], 0, &[0xA3; 2]).unwrap();
     assert_eq!(
         format!("{session:?}"),
-        "CheckingSession { agreement: Agreement { algorithm: 1, padding: 1, m: 12 }, total: 0, .. }"
+        "CheckingSession { agreement: Agreement { algorithm: 1, padding: 1, m: 12, master: false }, total: 0, .. }"
     );
 }

@@ -126,8 +126,9 @@ fn other_bytes_get_their_own_answer() {
             for length in good.len() - 1..=good.len() + 1 {
                 let (brought, rest) = slip[..length].split_at(cut.min(length));
                 let record = raw::gather(raw::gather(NONE, brought), rest);
-                let whole = raw::read(AGREED, &key, &slip[..length]);
-                assert_eq!(raw::read_gathered(AGREED, &key, record), whole, "byte {place} with {byte}");
+                let whole = raw::read(AGREED.into(), &key, &slip[..length]);
+                let read = raw::read_gathered(AGREED.into(), &key, record);
+                assert_eq!(read, whole, "byte {place} with {byte}");
             }
         }
     }
@@ -169,8 +170,8 @@ fn forged_records() {
             let mut bytes = [junk; 80];
             bytes[..slip.len()].copy_from_slice(&slip);
             let (record, held) = (Gathered { count, bytes }, &bytes[..count.min(76) as usize]);
-            let read = raw::read_gathered(agreement, &keys, record);
-            assert_eq!(read, raw::read(agreement, &keys, held), "count {count}, junk {junk}");
+            let read = raw::read_gathered(agreement.into(), &keys, record);
+            assert_eq!(read, raw::read(agreement.into(), &keys, held), "count {count}, junk {junk}");
             let expected = match held.len() {
                 length if length < slip.len() => 20,
                 length if length == slip.len() => 0,
@@ -182,8 +183,9 @@ fn forged_records() {
                 let joined = [held, &more].concat();
                 let after = raw::gather(record, &more);
                 assert_eq!(after, record_of(&joined), "count {count}, junk {junk}, {} more", more.len());
-                let read = raw::read_gathered(agreement, &keys, after);
-                assert_eq!(read, raw::read(agreement, &keys, &joined), "count {count}, {} more", more.len());
+                let read = raw::read_gathered(agreement.into(), &keys, after);
+                let whole = raw::read(agreement.into(), &keys, &joined);
+                assert_eq!(read, whole, "count {count}, {} more", more.len());
             }
         }
     }

@@ -128,6 +128,6 @@ fn keys_are_not_shown() {
     let session = Session::start(agreed(1, 1, 12), &[0xC5; 16], 0).unwrap();
     assert_eq!(
         format!("{session:?}"),
-        "Session { agreement: Agreement { algorithm: 1, padding: 1, m: 12 }, total: 0, .. }"
+        "Session { agreement: Agreement { algorithm: 1, padding: 1, m: 12, master: false }, total: 0, .. }"
     );
 }

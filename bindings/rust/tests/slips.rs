@@ -10,7 +10,7 @@ use slipseal::{make, raw, read_slip, write_slip, Agreement, Contents};
 /// The number of a refused slip, which must have zeros beside it.
 fn refused(agreement: Agreement, keys: &[u8], slip: &[u8]) -> u64 {
     let number = read_slip(agreement, keys, slip).unwrap_err().number();
-    let s = raw::read(agreement, keys, slip);
+    let s = raw::read(agreement.into(), keys, slip);
     assert_eq!([s.number, s.year, s.month, s.day], [number, 0, 0, 0]);
     assert_eq!([s.amount, s.calls, s.lot_at, s.lot_len], [0; 4]);
     number
@@ -24,7 +24,7 @@ fn sealed(agreement: Agreement, keys: &[u8], contents: Contents) -> Vec<u8> {
     let fields = [&expiry[..], &[2, 0, lot.len() as u8], lot, &[3, 0, 4], &amount].concat();
     let mut room = [0; 16];
     let tag = make(agreement, keys, &fields, 8 * fields.len(), &mut room).unwrap().tag;
-    let Agreement { algorithm, padding, m } = agreement;
+    let Agreement { algorithm, padding, m, .. } = agreement;
     let head = [0x7F, 0, 3 + tag.len() as u8, algorithm as u8, padding as u8, m as u8];
     [&fields, &head[..], tag].concat()
 }
@@ -128,7 +128,7 @@ fn every_number_beside_every_byte() {
             other[26 + place] = byte;
             for number in 0..=520 {
                 let agreement = with_number(AGREED, place, number);
-                let refusal = raw::read(agreement, &key, &other).number;
+                let refusal = raw::read(agreement.into(), &key, &other).number;
                 assert_eq!(refusal == 25, u64::from(byte) != number, "{agreement:?}, byte {byte}: {refusal}");
             }
         }

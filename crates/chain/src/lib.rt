@@ -410,10 +410,10 @@ pub fn close(t: &cipher::Table, k: Keyed, hold: Hold, total: usize) -> [u8; 16]
 
 // ---- calls
 
-// How many cipher calls the tag of so many bits takes.
-pub fn calls(cipher: usize, s: settings::Settings, bits: usize) -> usize
-    ensures { λ r. ⌜ r ≡ blockCount (methodAt (s .padding)) (cipherAt cipher .n) bits + row (algorithmAt (s .algorithm)) .further ⌝ }
+// How many cipher calls the tag of so many bits takes, with those that were made for its keys.
+pub fn calls(cipher: usize, s: settings::Settings, unpacking: u8, bits: usize) -> usize
+    ensures { λ r. ⌜ r ≡ unpacking + (blockCount (methodAt (s .padding)) (cipherAt cipher .n) bits + row (algorithmAt (s .algorithm)) .further) ⌝ }
 {
     let row = mac::row_of(s.algorithm);
-    mac::block_count(cipher, s.padding, bits) + row.further
+    unpacking as usize + (mac::block_count(cipher, s.padding, bits) + row.further)
 }

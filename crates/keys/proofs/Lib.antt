@@ -1,2 +1,3 @@
+pub mod MasterKeys
 pub mod GivenKeys
 pub mod Unique

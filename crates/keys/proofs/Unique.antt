@@ -4,8 +4,11 @@ use mathlib.Core.Path.{_≡_, refl}
 use borrow.Author.Needs.{needs}
 use Rattle.bits.specs.Once.{Unique}
 use Rattle.bits.proofs.Same.{same, same-bytes, Bytes}
+use Rattle.mac.specs.Run.{Run}
+use Rattle.mac.specs.Algorithm.{Keys}
 use Rattle.keys.specs.declared.KeyBlocks.{KeyBlocks}
-use Rattle.keys.specs.Given.{keyBits}
+use Rattle.keys.specs.declared.Unpacked.{Unpacked}
+use Rattle.keys.specs.Given.{unpackOf, keyBits, Unpacks}
 use Rattle.keys.proofs.kept.Kinds as kept-k
 use Rattle.keys.proofs.kept.Reads as kept
 use Rattle.keys.proofs.unpack.Kinds as unpack-k
@@ -20,7 +23,7 @@ use Rattle.keys.proofs.weak.Kinds as weak-k
 use Rattle.keys.proofs.weak.Reads as weak
 
 -- three blocks of bytes
-record Blocks (b : KeyBlocks) : Type 0 where
+pub record Blocks (b : KeyBlocks) : Type 0 where
   pub first : Bytes 16 (b .first)
   pub second : Bytes 16 (b .second)
   pub third : Bytes 16 (b .third)
@@ -36,8 +39,15 @@ same-keys {b} {c} x y e =
 pub kept-unique : Unique kept-k.ps kept-k.r kept.Asked kept.Learnt
 kept-unique κs a g p x y = (same (x .ensures) (y .ensures), refl)
 
+-- what was unpacked is fixed by the run that it stands for
+pub same-unpacked : {u v : Unpacked} (R : Run Keys) → Blocks (u .keys) → Blocks (v .keys) → Unpacks u R → Unpacks v R → u ≡ v
+same-unpacked R x y e f =
+    let keys = same-keys x y (same (e .0) (f .0)) in
+    let calls = same (e .1) (f .1) in
+    λ i. record { keys = keys i; calls = calls i }
+
 pub unpack-unique : Unique unpack-k.ps unpack-k.r unpack.Asked unpack.Learnt
-unpack-unique κs a g p x y = (same-keys (search needs) (search needs) (same (x .ensures) (y .ensures)), refl)
+unpack-unique κs a g p x y = (same-unpacked (unpackOf (a .0) (a .1 .0) (a .1 .1 .0 .now)) (search needs) (search needs) (x .ensures) (y .ensures), refl)
 
 pub bytes-of-unique : Unique bytes-of-k.ps bytes-of-k.r bytes-of.Asked bytes-of.Learnt
 bytes-of-unique κs a g p x y = (same (x .ensures) (y .ensures), refl)

@@ -7,13 +7,14 @@ ghost use Rattle.cipher.specs.Ciphers.{cipherAt};
 ghost use Rattle.mac.specs.Padding.{methodAt, blockCount};
 ghost use Rattle.mac.specs.Algorithm.{algorithmAt, row};
 
-// An algorithm's row: padding 4, or 1 to 3; K and K', or K alone; whether K and K' must differ; whether K'' is used; the calls
-// besides one for each block; the fewest blocks; the longest tag.
+// An algorithm's row: padding 4, or 1 to 3; K and K', or K alone; whether K and K' must differ; whether K'' is used; whether keys may
+// come from a master; the calls besides one for each block; the fewest blocks; the longest tag.
 pub struct Row {
     pub four: bool,
     pub two: bool,
     pub differ: bool,
     pub third: bool,
+    pub master: bool,
     pub further: usize,
     pub least: usize,
     pub longest: usize,
@@ -35,6 +36,7 @@ pub fn row_of(algorithm: usize) -> Row
             two: true,
             differ: true,
             third: false,
+            master: true,
             further: 1,
             least: 1,
             longest: Row::LONGEST_TAG,
@@ -46,6 +48,7 @@ pub fn row_of(algorithm: usize) -> Row
             two: true,
             differ: false,
             third: false,
+            master: false,
             further: 2,
             least: 1,
             longest: Row::LONGEST_TAG,
@@ -57,6 +60,7 @@ pub fn row_of(algorithm: usize) -> Row
             two: true,
             differ: true,
             third: true,
+            master: true,
             further: 2,
             least: 2,
             longest: Row::LONGEST_TAG,
@@ -68,6 +72,7 @@ pub fn row_of(algorithm: usize) -> Row
             two: false,
             differ: false,
             third: false,
+            master: false,
             further: 1,
             least: 1,
             longest: Row::LONGEST_TAG,
@@ -79,6 +84,7 @@ pub fn row_of(algorithm: usize) -> Row
             two: true,
             differ: true,
             third: false,
+            master: true,
             further: 0,
             least: 1,
             longest: Row::LONGEST_TAG,
@@ -90,6 +96,7 @@ pub fn row_of(algorithm: usize) -> Row
             two: false,
             differ: false,
             third: false,
+            master: false,
             further: 0,
             least: 1,
             longest: Row::LONGEST_TAG_OF_7,
@@ -101,6 +108,7 @@ pub fn row_of(algorithm: usize) -> Row
             two: false,
             differ: false,
             third: false,
+            master: false,
             further: 1,
             least: 1,
             longest: Row::LONGEST_TAG,
@@ -111,6 +119,7 @@ pub fn row_of(algorithm: usize) -> Row
         two: false,
         differ: false,
         third: false,
+        master: false,
         further: 0,
         least: 1,
         longest: Row::LONGEST_TAG,

@@ -18,15 +18,17 @@ use Rattle.bits.proofs.Faults.{Numbered, none, also, numbered-append, first-app
 use Rattle.bits.proofs.Same.{Bytes, sameB-bytes}
 use Rattle.bits.proofs.Strings.{length-zeros}
 use Rattle.mac.specs.declared.Row.{Row}
+use Rattle.mac.specs.Run.{Run}
 use Rattle.mac.specs.Padding.{methodAt, blockCount}
 use Rattle.mac.specs.Algorithm.{algorithmAt, row, Keys}
 use Rattle.mac.specs.Tag.{bytesFor, tagBytes}
 use Rattle.cipher.specs.Cipher.{Cipher}
 use Rattle.cipher.specs.Ciphers.{cipherAt}
-use Rattle.cipher.proofs.Laws.{sm4-width, width-at}
+use Rattle.cipher.proofs.Laws.{sm4-width, width-at, lawful-at}
 use Rattle.mac.proofs.TagBytes.{take-fits, tagBytes-block, tagBytes-fit}
-use Rattle.mac.proofs.Promised.{Promised, promised-at}
-use Rattle.keys.specs.Given.{keysOf, givenOf}
+use Rattle.mac.proofs.Derive.{from-count}
+use Rattle.keys.specs.Given.{givenOf}
+use Rattle.settings.specs.InUse.{inUse}
 use Rattle.settings.specs.Faults.{settingsFaults, settingsRefusal}
 use Rattle.settings.specs.Answers.{numberOf, settingsOf, checkedOf}
 use Rattle.settings.specs.declared.Agreement.{Agreement}
@@ -43,7 +45,7 @@ use Rattle.chain.proofs.Standing.{reached-at, finish-long}
 use Rattle.session.specs.declared.Purpose.the-variants.{Checking}
 use Rattle.session.specs.declared.Session.{Session}
 use Rattle.session.specs.declared.Step.{Step}
-use Rattle.session.specs.Record.{keysIn, stateIn, aimed, declaredTooLong}
+use Rattle.session.specs.Record.{unpackedIn, keysIn, stateIn, aimed, declaredTooLong}
 use Rattle.session.specs.Calls.{startFaults, refusedStart, startedBy, startOf, startUnder, startCheckFaults, freshCheckOf, startCheckOf, tagIn, callsIn, judgedOf}
 
 -- the shape of what comes: an answer with a record
@@ -52,25 +54,25 @@ of-step r = r .answer
 
 -- ---- a start: u are the keys in use, c what the builder answered
 
-module _ (A : Agreement) (s : List ℕ) (d : ℕ) (u : Keys) (eu : u ≡ keysOf s) (c : Checked) (ec : c ≡ checkedOf A (length s) u) where
-  told : c ≡ checkedOf A (length s) (keysOf s)
+module _ (A : Agreement) (s : List ℕ) (d : ℕ) (u : Keys) (eu : u ≡ inUse A s) (c : Checked) (ec : c ≡ checkedOf A (length s) u) where
+  told : c ≡ checkedOf A (length s) (inUse A s)
   told = ec ∙ ap (checkedOf A (length s)) eu
 
   pub start-refused : (k : ℕ) → c ≡ Unsound k → refusedStart k ≡ startOf A s d
   unfolding startOf startedBy startFaults settingsRefusal
   start-refused k e =
-      let both = unsound-is A (length s) (keysOf s) k (sym told ∙ e) in
-      let first = sym (both .0) ∙ sym (first-append (settingsFaults A (length s) (keysOf s)) (8 given declaredTooLong (A .padding) d ∷ []) (both .1)) in
+      let both = unsound-is A (length s) (inUse A s) k (sym told ∙ e) in
+      let first = sym (both .0) ∙ sym (first-append (settingsFaults A (length s) (inUse A s)) (8 given declaredTooLong (A .padding) d ∷ []) (both .1)) in
       miss _ _ _ _ (ne-eqb _ 0 (λ z. both .1 (both .0 ∙ first ∙ z))) (ap refusedStart first)
 
   pub settings-are : (S : Settings) → c ≡ Sound S → S ≡ settingsOf A
-  settings-are S e = sound-is A (length s) (keysOf s) S (sym told ∙ e) .1
+  settings-are S e = sound-is A (length s) (inUse A s) S (sym told ∙ e) .1
 
   pub start-sound : (S : Settings) → c ≡ Sound S → (g : List ℕ) → g ≡ givenOf s → startUnder A g u d ≡ startOf A s d
   unfolding startOf startUnder startFaults settingsRefusal
   start-sound S e g eg =
-      let both = sound-is A (length s) (keysOf s) S (sym told ∙ e) in
-      let later = first-append-clear (settingsFaults A (length s) (keysOf s)) (8 given declaredTooLong (A .padding) d ∷ []) (settings-alone A (length s) (keysOf s)) (both .0) in
+      let both = sound-is A (length s) (inUse A s) S (sym told ∙ e) in
+      let later = first-append-clear (settingsFaults A (length s) (inUse A s)) (8 given declaredTooLong (A .padding) d ∷ []) (settings-alone A (length s) (inUse A s)) (both .0) in
       λ i. startedBy (sym later i) A (eg i) (eu i) d
 
 -- ---- the start of a check: begun is what the start handed back, and no its number
@@ -82,7 +84,7 @@ module _ (A : Agreement) (s : List ℕ) (d : ℕ) where
 
   pub start-alone : Numbered (startFaults A s d)
   unfolding startFaults
-  start-alone = settings-numbered A (length s) (keysOf s) _ (also {k = 8} (omega arith) none)
+  start-alone = settings-numbered A (length s) (inUse A s) _ (also {k = 8} (omega arith) none)
 
   pub check-numbered : (tag : ℕ) → Numbered (startCheckFaults A s d tag)
   unfolding startCheckFaults
@@ -145,17 +147,16 @@ module _ (s : Session) (hv : length (s .hold .value) ≡ 16) (hh : length (s .ho
       ∙ ap (λ (w : List ℕ). sameB (bytesBits (take (bytesFor (s .agreement .m)) (s .expected))) (bytesBits w)) (tagBytes-block (tagIn s) b (s .agreement .m) tag-long hm (sixteen .long) (λ i. sixteen .each i .fits) e)
       ∙ sameB-bytes _ _ (take-fits (bytesFor (s .agreement .m)) (s .expected) (λ i. expected .each i .fits)) (tagBytes-fit (tagIn s)))
 
--- ---- the calls: q and the further calls of the row are as many as the list for so many bits has
+-- ---- the calls: those for the keys, q and the further calls of the row are as many as the list for so many bits has
 
 module _ (s : Session) where
   abbrev agreed : Agreement
   agreed = s .agreement
 
-  pub calls-listed : tooFewBlocks (settingsOf agreed) (s .total) ≡ false
-      → blockCount (methodAt (agreed .padding)) (cipherAt 1 .n) (s .total) + row (algorithmAt (agreed .algorithm)) .further ≡ callsIn s
+  pub calls-listed : (u : ℕ) → u ≡ length (unpackedIn s .calls) → tooFewBlocks (settingsOf agreed) (s .total) ≡ false
+      → u + (blockCount (methodAt (agreed .padding)) (cipherAt 1 .n) (s .total) + row (algorithmAt (agreed .algorithm)) .further) ≡ callsIn s
   unfolding callsIn
-  calls-listed h =
+  calls-listed u e h =
       let q = ap (blockCount (methodAt (agreed .padding)) (cipherAt 1 .n)) (length-zeros (s .total)) in
-      sym (
-      promised-at 1 (algorithmAt (agreed .algorithm)) (methodAt (agreed .padding)) (keysIn s) .calls (agreed .m) (zeros (s .total)) (omega (arith, enough-held (settingsOf agreed) (s .total) h, q))
-      ∙ ap (λ (k : ℕ). k + row (algorithmAt (agreed .algorithm)) .further) q)
+      ap₂ (λ (x y : ℕ). x + (y + row (algorithmAt (agreed .algorithm)) .further)) e (sym q)
+      ∙ sym (from-count (cipherAt 1) (algorithmAt (agreed .algorithm)) (methodAt (agreed .padding)) (unpackedIn s) (agreed .m) (zeros (s .total)) (lawful-at 1) (omega (arith, enough-held (settingsOf agreed) (s .total) h, q)))

@@ -24,7 +24,7 @@ use Rattle.mac.proofs.TagBytes.{length-bitsOf}
 use Rattle.cipher.specs.Cipher.{Cipher}
 use Rattle.cipher.specs.Ciphers.{cipherAt}
 use Rattle.cipher.proofs.Laws.{lawful-at}
-use Rattle.keys.specs.Given.{keysOf}
+use Rattle.settings.specs.InUse.{inUse}
 use Rattle.settings.specs.Faults.{settingsFaults}
 use Rattle.settings.specs.Answers.{numberOf, settingsOf}
 use Rattle.settings.specs.declared.Agreement.{Agreement}
@@ -80,7 +80,7 @@ module _ (A : Agreement) (s : List ℕ) (d : ℕ) (g : Clear (startFaults A s d)
   pub one-call-last : (bytes : List ℕ) (l : ℕ) → Holds bytes l x → (ten : Bool) → firstOf (oneCallFaults A s (length bytes) l ten) ≡ lastTwo A (length x) ten
   unfolding oneCallFaults startFaults messageFaults lengthWrong tooManyBits stood standing freshOf
   one-call-last bytes l h ten =
-      first-append-clear (settingsFaults A (length s) (keysOf s)) _ (settings-alone A (length s) (keysOf s)) (clear-first (clear-append (settingsFaults A (length s) (keysOf s)) _ g .0))
+      first-append-clear (settingsFaults A (length s) (inUse A s)) _ (settings-alone A (length s) (inUse A s)) (clear-first (clear-append (settingsFaults A (length s) (inUse A s)) _ g .0))
       ∙ past 7 _ _ (ap not (eq-eqb (length bytes) (bytesFor l) (h .long)))
       ∙ past 8 _ _ (le-ltb 8388608 l (omega (arith, few, length-held bytes l x h)))
       ∙ ap (λ (k : ℕ). firstOf (9 given tooFewBlocks (settingsOf A) k ∷ 10 given ten ∷ [])) (sym (length-held bytes l x h))

@@ -16,7 +16,7 @@ use Rattle.bits.specs.Str.{Bits}
 use Rattle.bits.proofs.Faults.{Clear, passed, done}
 use Rattle.bits.proofs.Same.{sameBytes-true, sameBytes-eq}
 use Rattle.block.specs.Block.{front}
-use Rattle.keys.specs.Given.{keysOf}
+use Rattle.settings.specs.InUse.{unpacked, inUse}
 use Rattle.settings.specs.Answers.{numberOf}
 use Rattle.settings.specs.declared.Agreement.{Agreement}
 use Rattle.settings.specs.declared.Outcome.{Outcome}
@@ -93,11 +93,11 @@ module _ (A : Agreement) (s : List ℕ) (d : ℕ) (tag : List ℕ) (u : Unrefuse
   stood-runs : Running (record-after b cs) → Running (stood A s d x)
   stood-runs runs = sym (aimed-closed Checking (front tag) (stood A s d x)) ∙ sym (ap (λ (t : Session). countsClosed t) (after-stood b u cs runs)) ∙ runs
 
-  pub yes-exactly : Unrefused (end .answer) → ((k : ℕ) → end .answer ≡ Yes k → tag ≡ tagged A (keysOf s) x) × (tag ≡ tagged A (keysOf s) x → end .answer ≡ Yes (listed A (keysOf s) x))
+  pub yes-exactly : Unrefused (end .answer) → ((k : ℕ) → end .answer ≡ Yes k → tag ≡ tagged A (inUse A s) x) × (tag ≡ tagged A (inUse A s) x → end .answer ≡ Yes (listed A (unpacked A s) x))
   unfolding pick
   yes-exactly f =
       let e = ap (λ (t : Step). t .answer) (joined-check A s d tag u cs f) in
-      let calls = listed A (keysOf s) x in (
+      let calls = listed A (unpacked A s) x in (
         λ k says. sameBytes-eq tag _ (yes-tested true _ calls 0 k (sym e ∙ says)),
         λ same. e ∙ ap (λ (t : Bool). pick t (Yes calls) (No calls)) (sameBytes-true tag _ same),
       )

@@ -21,7 +21,7 @@ use Rattle.bits.specs.Str.{Bits}
 use Rattle.block.specs.Block.{front}
 use Rattle.mac.specs.Tag.{bytesFor}
 use Rattle.mac.specs.Session.{joined}
-use Rattle.keys.specs.Given.{keysOf}
+use Rattle.settings.specs.InUse.{unpacked, inUse}
 use Rattle.settings.specs.Answers.{numberOf}
 use Rattle.settings.specs.declared.Agreement.{Agreement}
 use Rattle.settings.specs.declared.Outcome.{Outcome}
@@ -152,17 +152,17 @@ module _ (r : CheckRan) where
       ∙ ap (λ (t : Step). record { answer = verdictOf agreed keyed (joined (gathered (t .session) (r .acts))) expecting; session = cleared }) (sym (r .first .ensures))
 
   -- yes to the defined tag alone, and always to it
-  pub yes-run-alone : (k : ℕ) → r .last .result .answer ≡ Yes k → expecting ≡ tagged agreed (keysOf keyed) told
+  pub yes-run-alone : (k : ℕ) → r .last .result .answer ≡ Yes k → expecting ≡ tagged agreed (inUse agreed keyed) told
   yes-run-alone k e =
       yes-exactly agreed keyed d expecting begun (r .acts) judged-so .0 k (sym (ap (λ (t : Step). t .answer) ends-so) ∙ e)
-      ∙ ap (λ (t : Step). tagged agreed (keysOf keyed) (joined (gathered (t .session) (r .acts)))) (sym (r .first .ensures))
+      ∙ ap (λ (t : Step). tagged agreed (inUse agreed keyed) (joined (gathered (t .session) (r .acts)))) (sym (r .first .ensures))
 
-  pub yes-run-to-it : expecting ≡ tagged agreed (keysOf keyed) told → r .last .result .answer ≡ Yes (listed agreed (keysOf keyed) told)
+  pub yes-run-to-it : expecting ≡ tagged agreed (inUse agreed keyed) told → r .last .result .answer ≡ Yes (listed agreed (unpacked agreed keyed) told)
   yes-run-to-it e =
       let began = r .first .ensures in
       ap (λ (t : Step). t .answer) ends-so
-      ∙ yes-exactly agreed keyed d expecting begun (r .acts) judged-so .1 (e ∙ ap (λ (t : Step). tagged agreed (keysOf keyed) (joined (gathered (t .session) (r .acts)))) began)
-      ∙ ap (λ (t : Step). Yes (listed agreed (keysOf keyed) (joined (gathered (t .session) (r .acts))))) (sym began)
+      ∙ yes-exactly agreed keyed d expecting begun (r .acts) judged-so .1 (e ∙ ap (λ (t : Step). tagged agreed (inUse agreed keyed) (joined (gathered (t .session) (r .acts)))) began)
+      ∙ ap (λ (t : Step). Yes (listed agreed (unpacked agreed keyed) (joined (gathered (t .session) (r .acts))))) (sym began)
 
   -- and one call of `check` under the same agreement and keys, with the joined bits and the same tag
   module _ (bytes : List ℕ) (l : ℕ) (holds : Holds bytes l told) (κs : Lfts 3) (b : Dens κs check-k.ps) (y : Checking κs b) (at : CheckAt κs b agreed keyed bytes l expecting) where

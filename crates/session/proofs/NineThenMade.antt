@@ -3,7 +3,7 @@
 -- of the 129 bits with four calls. So the theorems about runs with refused calls are about something (`nine-first`, `then-made`).
 -- Assumes nothing.
 use mathlib.Core.Path.{_≡_, refl, sym, ap, ap₂, _∙_, subst}
-use mathlib.Core.Bool.{true}
+use mathlib.Core.Bool.{true, false}
 use mathlib.Core.List.{List, [], _∷_, _++_, map, append-nil}
 use Prim.Native.Nat.{ℕ, _+_, _*_, _≤_}
 use native.Mathlib.Omega.{arith}
@@ -15,14 +15,16 @@ use Rattle.bits.proofs.Faults.{Clear, first-clear, here, later, given-first}
 use Rattle.bits.proofs.Packed.{length-bytesBits}
 use Rattle.cipher.specs.Cipher.{Cipher}
 use Rattle.cipher.specs.Ciphers.{cipherAt}
+use Rattle.cipher.proofs.Laws.{lawful-at}
 use Rattle.mac.specs.declared.Row.{Row}
 use Rattle.mac.specs.Padding.{methodAt, complete, gap, prefix, suffix, blockCount}
 use Rattle.mac.specs.Algorithm.{algorithmAt, row}
 use Rattle.mac.specs.Tag.{bitsOf, bytesFor}
 use Rattle.mac.specs.Session.{joined}
 use Rattle.mac.proofs.TagBytes.{length-bitsOf, bitsOf-append}
-use Rattle.mac.proofs.Promised.{Promised, promised-at}
-use Rattle.keys.specs.Given.{keysOf}
+use Rattle.mac.proofs.Derive.{from-count}
+use Rattle.keys.proofs.GivenKeys.{unpack-calls}
+use Rattle.settings.specs.InUse.{unpacked}
 use Rattle.settings.specs.Answers.{numberOf, settingsOf}
 use Rattle.settings.specs.declared.Agreement.{Agreement}
 use Rattle.settings.specs.declared.Outcome.{Outcome}
@@ -43,7 +45,7 @@ use Rattle.session.proofs.Joined.{Offered, bitsIn, offers, ends, answer
 use Rattle.session.proofs.Accepting.{Cut, Served, accepting, end, next, stays-open, all-handed}
 
 abbrev pub four : ℕ → Agreement
-four m = record { algorithm = 4; padding = 1; m = m }
+four m = record { algorithm = 4; padding = 1; m = m; master = false }
 
 module _ (s : List ℕ) (m : ℕ) (block : List ℕ) (byte : ℕ) (room : List ℕ) (sixteen : length block ≡ 16) (u : Unrefused (makeOf (four m) s (block ++ (byte ∷ [])) 129 room .0)) where
   abbrev all : List ℕ
@@ -120,7 +122,7 @@ module _ (s : List ℕ) (m : ℕ) (block : List ℕ) (byte : ℕ) (room : List �
   unfolding blockCount prefix suffix gap complete zeros pick methodAt algorithmAt cipherAt
   four-calls =
       ap (λ (r : Outcome × List ℕ). r .0) (made-of (four m) s all 129 room u)
-      ∙ ap Made (promised-at 1 (algorithmAt 4) (methodAt 1) (keysOf s) .calls m (bitsOf all 129) two ∙ ap (λ (k : ℕ). blockCount (methodAt 1) (cipherAt 1 .n) k + 2) long)
+      ∙ ap Made (from-count (cipherAt 1) (algorithmAt 4) (methodAt 1) (unpacked (four m) s) m (bitsOf all 129) (lawful-at 1) two ∙ ap₂ (λ (u k : ℕ). u + (blockCount (methodAt 1) (cipherAt 1 .n) k + 2)) (unpack-calls false 4 s) long)
     where
       long : length (bitsOf all 129) ≡ 129
       long = length-bitsOf all 129 (omega (arith, long-all))

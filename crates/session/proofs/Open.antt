@@ -65,7 +65,7 @@ fit-in (Part n) l e = go (eqb n 0) refl e
 
 pub record Open (s : Session) : Type 0 where
   pub fit : s .phase ≡ phaseAt (s .total)
-  pub sound : settingsRefusal (s .agreement) (keyBytes (s .agreement .algorithm)) (keysIn s) ≡ 0
+  pub sound : settingsRefusal (s .agreement) (keyBytes (s .agreement .master) (s .agreement .algorithm)) (keysIn s) ≡ 0
   pub short : s .agreement .m ≤ storage
   pub few : s .total ≤ 8388608
   pub declared : s .agreement .padding ≡ 3 → s .declared ≤ 8388608

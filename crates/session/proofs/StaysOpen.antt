@@ -14,6 +14,7 @@ use Rattle.bits.specs.Choice.{pick}
 use Rattle.bits.specs.Str.{Bits}
 use Rattle.bits.proofs.Faults.{Clear, passed, done, first-clear, clear-first}
 use Rattle.block.specs.Block.{front}
+use Rattle.mac.specs.Run.{Run}
 use Rattle.mac.specs.Algorithm.{Keys}
 use Rattle.mac.specs.Session.{State, absorb}
 use Rattle.mac.proofs.TagBytes.{length-bitsOf}
@@ -21,8 +22,9 @@ use Rattle.cipher.specs.Cipher.{Cipher}
 use Rattle.cipher.specs.Ciphers.{cipherAt}
 use Rattle.cipher.proofs.Laws.{lawful-at, width-at}
 use Rattle.keys.specs.Given.{givenOf}
-use Rattle.keys.specs.Faults.{keyBytes, keyBytesWrong}
-use Rattle.keys.proofs.GivenKeys.{given-keys}
+use Rattle.keys.specs.Faults.{keyBytes}
+use Rattle.keys.proofs.GivenKeys.{given-keys, needed-bytes}
+use Rattle.settings.specs.InUse.{inUse}
 use Rattle.settings.specs.Faults.{settingsFaults, settingsRefusal}
 use Rattle.settings.specs.declared.Agreement.{Agreement}
 use Rattle.settings.proofs.Numbers.{Unrefused}
@@ -84,12 +86,12 @@ module _ (A : Agreement) (s : List ℕ) (d : ℕ) where
   pub start-clear : Unrefused (startOf A s d .answer) → Clear (startFaults A s d)
   start-clear u = first-clear _ (start-alone A s d) (sym (start-faults A s d) ∙ u)
 
-  settings-sound : Clear (startFaults A s d) → settingsUnsound A (givenOf s) ≡ false
-  unfolding startFaults settingsFaults settingsUnsound settingsRefusal keyBytesWrong
+  settings-sound : Clear (startFaults A s d) → settingsUnsound A (inUse A (givenOf s)) ≡ false
+  unfolding startFaults settingsFaults settingsUnsound settingsRefusal
   settings-sound (passed e1 (passed e2 (passed e3 (passed e4 (passed e5 (passed e6 rest)))))) =
-      let n : ℕ = keyBytes (A .algorithm) in
-      ap (λ (K : Keys). not (eqb (settingsRefusal A n K) 0)) (given-keys s)
-      ∙ ap (λ (k : ℕ). not (eqb k 0)) (clear-first (passed e1 (passed e2 (passed e3 (passed (ap not (eq-eqb n n refl)) (passed e5 (passed e6 done)))))))
+      let n : ℕ = keyBytes (A .master) (A .algorithm) in
+      ap (λ (r : Run Keys). not (eqb (settingsRefusal A n (r .out)) 0)) (given-keys (A .master) (A .algorithm) s)
+      ∙ ap (λ (k : ℕ). not (eqb k 0)) (clear-first (passed e1 (passed e2 (passed e3 (passed (needed-bytes (A .master) (A .algorithm) (length s) e4) (passed e5 (passed e6 done)))))))
 
   declared-short : Clear (startFaults A s d) → declaredTooLong (A .padding) d ≡ false
   unfolding startFaults settingsFaults

@@ -16,7 +16,8 @@ use Rattle.mac.specs.Run.{Run}
 use Rattle.mac.specs.declared.Row.{Row}
 use Rattle.mac.specs.Padding.{Method, methodAt, prefix, suffix, complete, blockCount}
 use Rattle.mac.specs.Algorithm.{Algorithm, algorithmAt, row, Keys, Steps, steps}
-use Rattle.mac.specs.Tag.{tagOf, callsOf, blockBytes}
+use Rattle.mac.specs.Tag.{tagOf, blockBytes}
+use Rattle.mac.specs.Derive.{macFrom}
 use Rattle.mac.specs.Session.{State, absorb, finish, opened, fed, closed}
 use Rattle.cipher.specs.Cipher.{Cipher}
 use Rattle.cipher.specs.Ciphers.{cipherAt}
@@ -24,8 +25,9 @@ use Rattle.cipher.proofs.Widths.{take-filled}
 use Rattle.cipher.proofs.Laws.{lawful-at, width-at}
 use Rattle.mac.proofs.Absorbing.{absorb-append, absorb-fits, one-piece, opened-held}
 use Rattle.mac.proofs.TagBytes.{blockBytes-bits}
-use Rattle.mac.proofs.Promised.{Promised, promised-at}
-use Rattle.keys.specs.Given.{keysOf, givenOf}
+use Rattle.mac.proofs.Derive.{from-count}
+use Rattle.keys.specs.Given.{givenOf}
+use Rattle.settings.specs.InUse.{unpacked, inUse}
 use Rattle.keys.proofs.GivenKeys.{given-keys}
 use Rattle.settings.specs.declared.Agreement.{Agreement}
 use Rattle.chain.specs.declared.Hold.{Hold}
@@ -78,7 +80,7 @@ module _ (A : Agreement) (s : List ℕ) (d : ℕ) where
   M = methodAt p
 
   abbrev K : Keys
-  K = keysOf s
+  K = inUse A s
 
   abbrev S : Steps
   S = steps C B K .out
@@ -118,7 +120,7 @@ module _ (A : Agreement) (s : List ℕ) (d : ℕ) where
   pub stood-fed : (x y : Bits) → fedOf (stood x) y ≡ stood (x ++ y)
   unfolding fedOf stood standing freshOf holdOf
   stood-fed x y =
-      ap (λ (k : Keys). standing fresh (length x + length y) (absorb n (steps C B k .out) (stateIn (stood x)) y)) (given-keys s)
+      ap (λ (k : Keys). standing fresh (length x + length y) (absorb n (steps C B k .out) (stateIn (stood x)) y)) (ap (λ (r : Run Keys). r .out) (given-keys (A .master) a s))
       ∙ ap₂ (λ (l : ℕ) (t : State). standing fresh l (quiet (absorb n S t y))) (sym (length-append x y)) (state-is x)
       ∙ ap (standing fresh (length (x ++ y))) (absorb-quiet n S (after x) y)
       ∙ ap (standing fresh (length (x ++ y))) (absorb-append n S beginning x y some)
@@ -137,14 +139,15 @@ module _ (A : Agreement) (s : List ℕ) (d : ℕ) where
   pub stood-tag : (x : Bits) → (p ≡ 3 → declaredAt p d ≡ length x) → tagIn (stood x) ≡ tagOf C B M K (A .m) x
   unfolding tagIn stateIn stood standing freshOf tagOf fed
   stood-tag x h =
-      ap (λ (k : Keys). finish (steps C B k .out) (complete n (length x)) (A .m) (absorb n (steps C B k .out) (stateIn (stood x)) (suffix M n (length x))) .out) (given-keys s)
+      ap (λ (k : Keys). finish (steps C B k .out) (complete n (length x)) (A .m) (absorb n (steps C B k .out) (stateIn (stood x)) (suffix M n (length x))) .out) (ap (λ (r : Run Keys). r .out) (given-keys (A .master) a s))
       ∙ closes 1 a p K (A .m) (length x) (after x) (reached x)
       ∙ ap (λ (t : State). closed C B M K (A .m) (length x) (fed C B M K t x) .out) (opened-alike B K p (declaredAt p d) (length x) h)
       ∙ ap (λ (r : Run Bits). r .out) (one-piece C (lawful-at 1) B M K (A .m) x)
 
-  pub stood-calls : (x : Bits) → row B .least ≤ blockCount M n (length x) → callsIn (stood x) ≡ length (callsOf C B M K (A .m) x)
+  pub stood-calls : (x : Bits) → row B .least ≤ blockCount M n (length x) → callsIn (stood x) ≡ length (macFrom C B M (unpacked A s) (A .m) x .calls)
   unfolding callsIn stood standing freshOf
   stood-calls x h =
       let q = ap (blockCount M n) (length-zeros (length x)) in
-      promised-at 1 B M (keysOf (givenOf s)) .calls (A .m) (zeros (length x)) (omega (arith, h, q)) ∙ ap (λ (k : ℕ). k + row B .further) q
-      ∙ sym (promised-at 1 B M K .calls (A .m) x h)
+      from-count C B M (unpacked A (givenOf s)) (A .m) (zeros (length x)) (lawful-at 1) (omega (arith, h, q))
+      ∙ ap₂ (λ (r : Run Keys) (k : ℕ). length (r .calls) + (k + row B .further)) (given-keys (A .master) a s) q
+      ∙ sym (from-count C B M (unpacked A s) (A .m) x (lawful-at 1) h)

@@ -10,10 +10,11 @@ use Rattle.bits.specs.Str.{Bits, bytesBits, leftmost, sameB}
 use Rattle.block.specs.Block.{filledBlock}
 use Rattle.cipher.specs.Cipher.{Cipher}
 use Rattle.cipher.specs.Ciphers.{cipherAt}
+use Rattle.mac.specs.Run.{Run}
 use Rattle.mac.specs.Algorithm.{Keys}
 use Rattle.mac.specs.Session.{State}
-use Rattle.keys.specs.Given.{keysOf}
 use Rattle.keys.specs.Faults.{keyBytes}
+use Rattle.settings.specs.InUse.{unpacked}
 use Rattle.settings.specs.Faults.{settingsRefusal}
 use Rattle.settings.specs.declared.Agreement.{Agreement}
 use Rattle.message.specs.Faults.{tooManyBits}
@@ -30,7 +31,7 @@ unfoldable pub cleared : Session
 cleared = record {
   phase = Closed;
   purpose = Making;
-  agreement = record { algorithm = 0; padding = 0; m = 0 };
+  agreement = record { algorithm = 0; padding = 0; m = 0; master = false };
   declared = 0;
   total = 0;
   keys = replicate 32 0;
@@ -40,9 +41,12 @@ cleared = record {
 
 -- ---- what it stands for
 
--- the keys in use, of the bytes as they were given
+-- unpacking the bytes of the keys, which it keeps as they were given, and the keys in use
+abbrev pub unpackedIn : Session → Run Keys
+unpackedIn s = unpacked (s .agreement) (s .keys)
+
 abbrev pub keysIn : Session → Keys
-keysIn s = keysOf (s .keys)
+keysIn s = unpackedIn s .out
 
 unfoldable pub stateIn : Session → State
 stateIn s = stateAt (cipherAt 1 .n) (s .agreement .padding) (s .total) (s .hold)
@@ -92,8 +96,8 @@ phaseUnfit Edge l = not (eqb (l % 8) 0)
 phaseUnfit (Part n) l = pick (eqb n 0) true (not (eqb (l % 8) n))
 
 -- a start would refuse its agreement or keys (its key bytes are as many as it needs)
-unfoldable pub settingsUnsound : Agreement → List ℕ → Bool
-settingsUnsound A bytes = not (eqb (settingsRefusal A (keyBytes (A .algorithm)) (keysOf bytes)) 0)
+unfoldable pub settingsUnsound : Agreement → Keys → Bool
+settingsUnsound A K = not (eqb (settingsRefusal A (keyBytes (A .master) (A .algorithm)) K) 0)
 
 -- under padding 3, a declared length of d bits is too long
 unfoldable pub declaredTooLong : ℕ → ℕ → Bool
@@ -110,7 +114,7 @@ strayBit n w = not (sameB (filledBlock (leftmost n w)) w)
 unfoldable pub closedFaults : Session → List Fault
 closedFaults s =
     11 given phaseUnfit (s .phase) (s .total) ∷
-    11 given settingsUnsound (s .agreement) (s .keys) ∷
+    11 given settingsUnsound (s .agreement) (keysIn s) ∷
     11 given tooManyBits (s .total) ∷
     11 given declaredTooLong (s .agreement .padding) (s .declared) ∷
     11 given passesDeclared (s .agreement .padding) (s .declared) (s .total) ∷

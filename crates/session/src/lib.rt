@@ -10,12 +10,12 @@ ghost use Rattle.bits.specs.Str.{bytesBits};
 ghost use Rattle.block.specs.Block.{storage, filledBlock};
 ghost use Rattle.cipher.specs.Ciphers.{tableAt};
 ghost use Rattle.mac.specs.Tag.{bitsOf};
-ghost use Rattle.keys.specs.Given.{keyBits};
+ghost use Rattle.keys.specs.Given.{keyBits, Unpacks};
 ghost use Rattle.settings.specs.Answers.{numberOf, settingsOf};
 ghost use Rattle.message.specs.Faults.{tooFewBlocks};
 ghost use Rattle.chain.specs.Chain.{roundsBits, roundsOf};
 ghost use Rattle.session.specs.declared.Purpose.the-variants.{Checking};
-ghost use Rattle.session.specs.Record.{cleared, aimed, isCheck, phaseAt, phaseUnfit, settingsUnsound, passesDeclared, declaredTooLong, strayBit, countsClosed, keysIn};
+ghost use Rattle.session.specs.Record.{cleared, aimed, isCheck, phaseAt, phaseUnfit, settingsUnsound, passesDeclared, declaredTooLong, strayBit, countsClosed, unpackedIn, keysIn};
 ghost use Rattle.session.specs.Calls.{refusedStart, freshOf, declaredAt, startUnder, startOf, startCheckOf, lateBits, pieceFaults, fedOf, pieceOf, fallsShort, endFaults, tagIn, callsIn, finishOf, judgedOf, finishCheckOf};
 
 // Open at a byte edge, open after a part byte of 1 to 7 bits, or closed.
@@ -59,6 +59,7 @@ fn closed_session() -> Session
         algorithm: 0,
         padding: 0,
         m: 0,
+        master: false,
     };
     let hold = chain::Hold {
         value: [0u8; 16],
@@ -111,11 +112,11 @@ fn phase_unfit(phase: Phase, total: usize) -> bool
     }
 }
 
-fn settings_unsound(agreement: settings::Agreement, given: [u8; 32]) -> bool
-    ensures { λ r. ⌜ r ≡ settingsUnsound agreement given ⌝ }
+fn settings_unsound(agreement: settings::Agreement, keys: keys::KeyBlocks) -> bool
+    ensures { λ r. ⌜ r ≡ settingsUnsound agreement (keyBits keys) ⌝ }
 {
-    let keys = keys::unpack(&given);
-    settings::refusal(agreement, keys::bytes_of(agreement.algorithm), keys) != 0
+    let needed = keys::bytes_of(agreement.master, agreement.algorithm);
+    settings::refusal(agreement, needed, keys) != 0
 }
 
 // Whether so many bits after others pass the declared length, with no sum that could wrap.
@@ -146,14 +147,14 @@ fn stray_bit(n: usize, held: [u8; 16]) -> bool
     !block::equal(block::leftmost(held, n), held)
 }
 
-// Whether a record counts as closed, for whatever purpose and with whatever tag expected.
-fn counts_closed(s: Session) -> bool
+// Whether a record counts as closed, for whatever purpose and with whatever tag expected; told are its keys in use.
+fn counts_closed(s: Session, keys: keys::KeyBlocks) -> bool
+    requires { ⌜ keyBits keys ≡ keysIn s ⌝ }
     ensures { λ r. ⌜ r ≡ countsClosed s ⌝ }
 {
     let phase = s.phase;
     let agreement = s.agreement;
     let padding = agreement.padding;
-    let keys = s.keys;
     let hold = s.hold;
     let held = hold.held;
     let there = [
@@ -245,12 +246,13 @@ fn start_under(
 pub fn start(agreement: settings::Agreement, keys: &[u8], declared: usize) -> Step
     ensures { λ r. ⌜ r ≡ startOf agreement (now (keys .entry)) declared ⌝ }
 {
-    let unpacked = keys::unpack(keys);
-    let checked = settings::Settings::checked(agreement, keys.len(), unpacked);
+    let unpacked = settings::unpack(agreement, keys);
+    let used = unpacked.keys;
+    let checked = settings::Settings::checked(agreement, keys.len(), used);
     match checked {
         settings::Checked::Unsound(no) => refused_start(no),
         settings::Checked::Sound(s) => {
-            start_under(agreement, s, keys::kept(keys), unpacked, declared)
+            start_under(agreement, s, keys::kept(keys), used, declared)
         }
     }
 }
@@ -312,13 +314,20 @@ pub fn start_check(agreement: settings::Agreement, keys: &[u8], declared: usize,
 
 // ---- an open session
 
+// Its keys in use, once for each call: the record keeps the bytes as they were given, and whether a master is in use.
+fn unpacked_in(s: Session) -> keys::Unpacked
+    ensures { λ r. ⌜ Unpacks r (unpackedIn s) ⌝ }
+{
+    let agreement = s.agreement;
+    let given = s.keys;
+    settings::unpack(agreement, &given)
+}
+
 // The round keys of its keys.
-fn rounds_of(t: &cipher::Table, s: Session) -> chain::Rounds
-    requires { ⌜ now t ≡ tableAt 1 ⌝ }
+fn rounds_of(t: &cipher::Table, s: Session, keys: keys::KeyBlocks) -> chain::Rounds
+    requires { ⌜ (now t ≡ tableAt 1) × (keyBits keys ≡ keysIn s) ⌝ }
     ensures { λ r. ⌜ roundsBits r ≡ roundsOf 1 (s .agreement .algorithm) (keysIn s) ⌝ }
 {
-    let given = s.keys;
-    let keys = keys::unpack(&given);
     chain::expand(t, cipher::SM4, s.agreement.algorithm, keys)
 }
 
@@ -333,12 +342,13 @@ fn late_bits(total: usize, bits: usize) -> bool
     total % 8 != 0
 }
 
-fn piece_refusal(s: Session, length: usize, bits: usize) -> usize
+fn piece_refusal(s: Session, keys: keys::KeyBlocks, length: usize, bits: usize) -> usize
+    requires { ⌜ keyBits keys ≡ keysIn s ⌝ }
     ensures { λ r. ⌜ r ≡ firstOf (pieceFaults s length bits) ⌝ }
 {
     let agreement = s.agreement;
     let there = [
-        counts_closed(s),
+        counts_closed(s, keys),
         late_bits(s.total, bits),
         message::length_wrong(length, bits),
         message::too_many_more(s.total, bits),
@@ -348,8 +358,8 @@ fn piece_refusal(s: Session, length: usize, bits: usize) -> usize
 }
 
 // The bits of a piece go into an open session.
-fn fed(s: Session, bytes: &[u8], bits: usize) -> Session
-    requires { ⌜ (bits ≤ 8 * length (now bytes)) × (0 < bits → s .total % 8 ≡ 0) × (s .total + bits ≤ 8388608) ⌝ }
+fn fed(s: Session, keys: keys::KeyBlocks, bytes: &[u8], bits: usize) -> Session
+    requires { ⌜ (keyBits keys ≡ keysIn s) × (bits ≤ 8 * length (now bytes)) × (0 < bits → s .total % 8 ≡ 0) × (s .total + bits ≤ 8388608) ⌝ }
     ensures { λ r. ⌜ r ≡ fedOf s (bitsOf (now (bytes .entry)) bits) ⌝ }
 {
     let t = cipher::table(cipher::SM4);
@@ -357,14 +367,14 @@ fn fed(s: Session, bytes: &[u8], bits: usize) -> Session
     let k = chain::Keyed {
         cipher: cipher::SM4,
         settings: settings::Settings::of(agreement),
-        rounds: rounds_of(&t, s),
+        rounds: rounds_of(&t, s, keys),
     };
     let hold = s.hold;
     let next = chain::feed(&t, k, hold, s.total, bytes, bits);
     let total = s.total + bits;
     let phase = phase_at(total);
     let purpose = s.purpose;
-    let keys = s.keys;
+    let given = s.keys;
     let expected = s.expected;
     Session {
         phase,
@@ -372,7 +382,7 @@ fn fed(s: Session, bytes: &[u8], bits: usize) -> Session
         agreement,
         declared: s.declared,
         total,
-        keys,
+        keys: given,
         hold: next,
         expected,
     }
@@ -390,12 +400,13 @@ fn falls_short(padding: usize, declared: usize, total: usize) -> bool
 }
 
 // The refusal of a finish; told are whether its purpose is not the session's, and the tenth fault.
-fn finish_refusal(s: Session, other: bool, ten: bool) -> usize
+fn finish_refusal(s: Session, keys: keys::KeyBlocks, other: bool, ten: bool) -> usize
+    requires { ⌜ keyBits keys ≡ keysIn s ⌝ }
     ensures { λ r. ⌜ r ≡ firstOf (endFaults s other ten) ⌝ }
 {
     let agreement = s.agreement;
     let there = [
-        counts_closed(s),
+        counts_closed(s, keys),
         other,
         falls_short(agreement.padding, s.declared, s.total),
         message::too_few_blocks(settings::Settings::of(agreement), s.total),
@@ -405,7 +416,8 @@ fn finish_refusal(s: Session, other: bool, ten: bool) -> usize
 }
 
 // The tag of an open session, and zeros after it.
-fn tag_block(s: Session) -> [u8; 16]
+fn tag_block(s: Session, keys: keys::KeyBlocks) -> [u8; 16]
+    requires { ⌜ keyBits keys ≡ keysIn s ⌝ }
     ensures { λ r. ⌜ bytesBits r ≡ filledBlock (tagIn s) ⌝ }
 {
     let t = cipher::table(cipher::SM4);
@@ -413,30 +425,36 @@ fn tag_block(s: Session) -> [u8; 16]
     let k = chain::Keyed {
         cipher: cipher::SM4,
         settings: settings::Settings::of(agreement),
-        rounds: rounds_of(&t, s),
+        rounds: rounds_of(&t, s, keys),
     };
     let hold = s.hold;
     chain::close(&t, k, hold, s.total)
 }
 
-// All its calls, start included.
-fn calls_in(s: Session) -> usize
-    requires { ⌜ tooFewBlocks (settingsOf (s .agreement)) (s .total) ≡ false ⌝ }
+// All its calls, start included, where so many were made for its keys.
+fn calls_in(s: Session, unpacking: u8) -> usize
+    requires { ⌜ (tooFewBlocks (settingsOf (s .agreement)) (s .total) ≡ false) × (unpacking ≡ length (unpackedIn s .calls)) ⌝ }
     ensures { λ r. ⌜ r ≡ callsIn s ⌝ }
 {
     let agreement = s.agreement;
-    chain::calls(cipher::SM4, settings::Settings::of(agreement), s.total)
+    chain::calls(
+        cipher::SM4,
+        settings::Settings::of(agreement),
+        unpacking,
+        s.total,
+    )
 }
 
 // Whether the tag of an open session is the expected one; every byte of it is looked at.
-fn judged(s: Session) -> settings::Outcome
-    requires { ⌜ (s .agreement .m ≤ storage) × (tooFewBlocks (settingsOf (s .agreement)) (s .total) ≡ false) ⌝ }
+fn judged(s: Session, unpacked: keys::Unpacked) -> settings::Outcome
+    requires { ⌜ (s .agreement .m ≤ storage) × (tooFewBlocks (settingsOf (s .agreement)) (s .total) ≡ false) × Unpacks unpacked (unpackedIn s) ⌝ }
     ensures { λ r. ⌜ r ≡ judgedOf s ⌝ }
 {
     let agreement = s.agreement;
     let expected = s.expected;
-    let tag = tag_block(s);
-    let calls = calls_in(s);
+    let keys = unpacked.keys;
+    let tag = tag_block(s, keys);
+    let calls = calls_in(s, unpacked.calls);
     let n = message::bytes_for(agreement.m);
     if block::equal_bytes(&expected[..n], &tag[..n]) {
         return settings::Outcome::Yes(calls);
@@ -449,14 +467,16 @@ impl Session {
     pub fn piece(self, bytes: &[u8], bits: usize) -> Step
         ensures { λ r. ⌜ r ≡ pieceOf self (now (bytes .entry)) bits ⌝ }
     {
-        let no = piece_refusal(self, bytes.len(), bits);
+        let unpacked = unpacked_in(self);
+        let keys = unpacked.keys;
+        let no = piece_refusal(self, keys, bytes.len(), bits);
         if no != 0 {
             return Step {
                 answer: settings::Outcome::Refused(no),
                 session: self,
             };
         }
-        let next = fed(self, bytes, bits);
+        let next = fed(self, keys, bytes, bits);
         Step {
             answer: settings::Outcome::Accepted,
             session: next,
@@ -469,8 +489,11 @@ impl Session {
     {
         let purpose = self.purpose;
         let agreement = self.agreement;
+        let unpacked = unpacked_in(self);
+        let keys = unpacked.keys;
         let no = finish_refusal(
             self,
+            keys,
             is_check(purpose),
             message::room_short(agreement.m, room.len()),
         );
@@ -480,9 +503,9 @@ impl Session {
                 session: self,
             };
         }
-        let tag = tag_block(self);
+        let tag = tag_block(self, keys);
         block::put(tag, message::bytes_for(agreement.m), room);
-        let calls = calls_in(self);
+        let calls = calls_in(self, unpacked.calls);
         let shut = closed_session();
         Step {
             answer: settings::Outcome::Made(calls),
@@ -495,14 +518,16 @@ impl Session {
         ensures { λ r. ⌜ r ≡ finishCheckOf self ⌝ }
     {
         let purpose = self.purpose;
-        let no = finish_refusal(self, !is_check(purpose), false);
+        let unpacked = unpacked_in(self);
+        let keys = unpacked.keys;
+        let no = finish_refusal(self, keys, !is_check(purpose), false);
         if no != 0 {
             return Step {
                 answer: settings::Outcome::Refused(no),
                 session: self,
             };
         }
-        let answer = judged(self);
+        let answer = judged(self, unpacked);
         let closed = closed_session();
         Step {
             answer,

@@ -1,3 +1,4 @@
 pub mod Sound
+pub mod MasterSound
 pub mod Numbers
 pub mod Unique

@@ -22,13 +22,13 @@ paddingWrong a p = pick (row (algorithmAt a) .four) (not (eqb p 4)) (ltb p 1 || 
 unfoldable pub sizeWrong : ℕ → ℕ → Bool
 sizeWrong a m = ltb m 1 || ltb (row (algorithmAt a) .longest) m
 
--- in this order; n is the number of key bytes
+-- in this order; n is the number of key bytes, K the keys in use
 unfoldable pub settingsFaults : Agreement → ℕ → Keys → List Fault
 settingsFaults A n K =
     1 given algorithmWrong (A .algorithm) ∷
     2 given paddingWrong (A .algorithm) (A .padding) ∷
     3 given sizeWrong (A .algorithm) (A .m) ∷
-    4 given keyBytesWrong (A .algorithm) n ∷
+    4 given keyBytesWrong (A .master) (A .algorithm) n ∷
     5 given keysSame (A .algorithm) K ∷
     6 given keysWeak (A .algorithm) K ∷
     []

@@ -1,2 +1,3 @@
+pub mod InUse
 pub mod Faults
 pub mod Answers

@@ -1,7 +1,8 @@
 // What was agreed with a supplier, and the caller's keys, judged: refusals 1 to 6, each one test in one order. Numbers come in as
 // `usize` and nothing is narrowed before it is tested.
 ghost use mathlib.Core.Path.{_≡_};
-ghost use Rattle.keys.specs.Given.{keyBits};
+ghost use Rattle.keys.specs.Given.{keyBits, Unpacks};
+ghost use Rattle.settings.specs.InUse.{unpacked};
 ghost use Rattle.settings.specs.Faults.{algorithmWrong, paddingWrong, sizeWrong, settingsRefusal};
 ghost use Rattle.settings.specs.Answers.{settingsOf, checkedOf};
 
@@ -15,12 +16,12 @@ pub enum Outcome {
     Refused(usize),
 }
 
-// What was agreed with a supplier, as the caller hands it in.
-#[repr(C)]
+// What was agreed with a supplier: the settings, and whether the keys come from a master.
 pub struct Agreement {
     pub algorithm: usize,
     pub padding: usize,
     pub m: usize,
+    pub master: bool,
 }
 
 // The settings that an agreement makes. No rule refuses them where they come from `checked`.
@@ -57,7 +58,7 @@ impl Settings {
         }
     }
 
-    // The settings, or the first refusal of 1 to 6; the keys are given unpacked, and so is their number of bytes.
+    // The settings, or the first refusal of 1 to 6; told are the keys in use, and how many bytes were given for them.
     pub fn checked(agreement: Agreement, given: usize, keys: keys::KeyBlocks) -> Checked
         ensures { λ r. ⌜ r ≡ checkedOf agreement given (keyBits keys) ⌝ }
     {
@@ -67,6 +68,13 @@ impl Settings {
         }
         Checked::Unsound(no)
     }
+}
+
+// The keys in use that an agreement makes of the bytes as given, and the cipher calls made for it.
+pub fn unpack(agreement: Agreement, given: &[u8]) -> keys::Unpacked
+    ensures { λ r. ⌜ Unpacks r (unpacked agreement (now (given .entry))) ⌝ }
+{
+    keys::unpack(agreement.master, agreement.algorithm, given)
 }
 
 fn algorithm_wrong(algorithm: usize) -> bool
@@ -110,7 +118,7 @@ pub fn refusal(agreement: Agreement, given: usize, keys: keys::KeyBlocks) -> usi
         algorithm_wrong(algorithm),
         padding_wrong(algorithm, agreement.padding),
         size_wrong(algorithm, agreement.m),
-        keys::bytes_wrong(algorithm, given),
+        keys::bytes_wrong(agreement.master, algorithm, given),
         keys::same(algorithm, keys),
         keys::weak(algorithm, keys),
     ];

@@ -1,13 +1,15 @@
 -- A slip does not choose its own lock (02 §2). At the shelf: a slip that was accepted names the algorithm, the padding and the number
 -- of bits that were agreed, and its seal is the tag of just so many bits (`accepted-agrees`), as one with that tag is accepted
--- (`sealed-accepted`); every agreement that accepts it, under whatever keys, has these three (`one-agreement`). A slip whose fields
--- are in order gets 25 exactly where it names something else, whatever its tag and the keys (`unmet-25`, `only-unmet-25`). And so of
--- every answer that the contract of `read` allows: `read-agrees`, `read-sealed`, `reads-one-agreement`, `read-25`, `read-only-25`.
+-- (`sealed-accepted`); every agreement that accepts it, under whatever keys, has these three (`one-agreement`), and it does not tell
+-- whether the keys came from a master: it is accepted wherever the three and the keys in use are the same (`same-use-accepted`). A slip
+-- whose fields are in order gets 25 exactly where it names something else, whatever its tag and the keys (`unmet-25`, `only-unmet-25`).
+-- And so of every answer that the contract of `read` allows: `read-agrees`, `read-sealed`, `reads-one-agreement`, `read-25`,
+-- `read-only-25`.
 -- Assumes nothing.
 use mathlib.Core.Path.{_≡_, refl, sym, ap, _∙_}
 use mathlib.Core.Bool.{Bool, true, false, not}
-use mathlib.Core.List.{List}
-use Prim.Native.Nat.{ℕ}
+use mathlib.Core.List.{List, [], _∷_}
+use Prim.Native.Nat.{ℕ, _*_}
 use lib.Dec.{eqb}
 use lib.ListN.{length, getD}
 use contract.Lifetimes.{Lfts}
@@ -15,13 +17,15 @@ use borrow.Fn.Kinds.{Dens}
 use borrow.Author.Tests.{eqb-true, eqb-false, eq-eqb}
 use Rattle.bits.specs.Choice.{firstOf}
 use Rattle.bits.specs.Str.{sameBytes}
-use Rattle.bits.proofs.Faults.{passed, done, clear-first, all, with, every-first, first-append, first-append-clear}
+use Rattle.bits.proofs.Faults.{passed, done, clear-first, all, with, every-first, first-append, first-append-clear, first-front}
 use Rattle.bits.proofs.Same.{sameBytes-true, sameBytes-eq}
-use Rattle.mac.specs.Tag.{bytesFor}
+use Rattle.mac.specs.Tag.{bitsOf, bytesFor}
 use Rattle.settings.specs.Faults.{settingsFaults}
 use Rattle.settings.specs.declared.Agreement.{Agreement}
 use Rattle.message.specs.Faults.{tagLengthWrong}
-use Rattle.fields.specs.Layout.{sealField, layoutFaults}
+use Rattle.tag.specs.OneCall.{tagAt}
+use Rattle.tag.proofs.SameUse.{SameUse, tagged-same}
+use Rattle.fields.specs.Layout.{sealField, covered, layoutFaults}
 use Rattle.slip.specs.Slip.{namedValues, agreedValues, agreementUnmet, tagNamed, sealBits, sealDefined, sealWrong, agreementFaults, slipFaults, refusedSlip}
 use Rattle.slip.proofs.Judged.{agreement-numbered, seal-bits, seal-bytes, sealFaultsUnder, met-first, unmet-first, unmet-refused, believed}
 use Rattle.slip.proofs.Whole.{Accepted, Names, tag-defined, named-agreed}
@@ -79,6 +83,15 @@ sealed-accepted A keys s clear sound names tag =
     let length-right = ap not (eq-eqb _ _ (ap length tag ∙ seal-bytes A keys s sound)) in
     met-first A keys s clear (named-same A s names)
     ∙ first-append-clear (agreementFaults A keys) _ (agreement-numbered A keys) sound ∙ clear-first (passed length-right (passed (ap not (sameBytes-true _ _ tag)) done))
+
+-- ---- a slip does not name a master: it is accepted under each agreement that has the three numbers and the same keys in use
+
+pub same-use-accepted : (A B : Agreement) (keys keys′ s : List ℕ) → SameUse A keys B keys′ → firstOf (agreementFaults B keys′) ≡ 0 → Accepted A keys s → Accepted B keys′ s
+unfolding sealDefined tagAt slipFaults
+same-use-accepted A B keys keys′ s h sound good =
+    let values : agreedValues A ≡ agreedValues B = λ i. h .settings i .algorithm ∷ h .settings i .padding ∷ h .settings i .m ∷ [] in
+    sealed-accepted B keys′ s (first-front (layoutFaults s) _ good) sound (named-agreed A keys s good ∙ values)
+    (tag-defined A keys s good ∙ tagged-same A B keys keys′ h (bitsOf (covered s) (8 * length (covered s))))
 
 module _ (A : Agreement) (keys s : List ℕ) where
   pub unmet-25 : firstOf (layoutFaults s) ≡ 0 → ¬ Names A s → firstOf (slipFaults A keys s) ≡ 25

@@ -3,7 +3,7 @@
 -- are too long for every algorithm, so that nothing of them is looked at. Reading no further can neither spare nor cost a bottle.
 -- Assumes nothing.
 use mathlib.Core.Path.{_≡_, refl, sym, ap, _∙_}
-use mathlib.Core.Bool.{Bool, true, false, not, true≢false}
+use mathlib.Core.Bool.{Bool, true, false, not, _||_, or-true, true≢false}
 use mathlib.Core.List.{List, [], _∷_, _++_}
 use Prim.Native.Nat.{ℕ, _<_}
 use native.Mathlib.Omega.{arith}
@@ -15,8 +15,8 @@ use Rattle.bits.specs.Choice.{pick, Fault, _given_, firstOf}
 use Rattle.bits.proofs.Faults.{Clear, passed, first-clear, first-same}
 use Rattle.mac.specs.declared.Row.{Row}
 use Rattle.mac.specs.Algorithm.{algorithmAt, row, Keys}
-use Rattle.keys.specs.Given.{keysOf}
-use Rattle.keys.specs.Faults.{keyBytes, keyBytesWrong}
+use Rattle.settings.specs.InUse.{inUse}
+use Rattle.keys.specs.Faults.{keyBytes, masterWrong, keyBytesWrong}
 use Rattle.settings.specs.Faults.{algorithmWrong, paddingWrong, sizeWrong, settingsFaults}
 use Rattle.fields.specs.Layout.{sealField, layoutFaults}
 use Rattle.fields.proofs.Laid.{laid-out}
@@ -28,9 +28,9 @@ use Rattle.slip.proofs.Numbers.{refused-is}
 
 -- ---- keys of more than 32 bytes
 
-too-long : (a n : ℕ) → 32 < n → keyBytesWrong a n ≡ true
+too-long : (master : Bool) (a n : ℕ) → 32 < n → keyBytesWrong master a n ≡ true
 unfolding keyBytesWrong keyBytes pick
-too-long a n h = go (row (algorithmAt a) .two)
+too-long master a n h = ap (λ (b : Bool). masterWrong master a || b) (go (pick master (row (algorithmAt a) .third) (row (algorithmAt a) .two))) ∙ or-true (masterWrong master a)
   where
     go : (two : Bool) → not (eqb n (pick two 32 16)) ≡ true
     go true = ap not (ne-eqb n 32 (λ e. absurd (omega arith)))
@@ -40,22 +40,22 @@ too-long a n h = go (row (algorithmAt a) .two)
 pub four-latest : (A : Agreement) (n : ℕ) (K : Keys) (fs : List Fault) → 32 < n
     → firstOf (settingsFaults A n K ++ fs) ≡ firstOf (1 given algorithmWrong (A .algorithm) ∷ 2 given paddingWrong (A .algorithm) (A .padding) ∷ 3 given sizeWrong (A .algorithm) (A .m) ∷ 4 given true ∷ [])
 unfolding settingsFaults firstOf pick
-four-latest A n K fs h = rw (too-long (A .algorithm) n h) refl
+four-latest A n K fs h = rw (too-long (A .master) (A .algorithm) n h) refl
 
 pub not-clear : (A : Agreement) (n : ℕ) (K : Keys) → 32 < n → ¬ Clear (settingsFaults A n K)
 unfolding settingsFaults
-not-clear A n K h (passed e1 (passed e2 (passed e3 (passed e4 c)))) = true≢false (sym (too-long (A .algorithm) n h) ∙ e4)
+not-clear A n K h (passed e1 (passed e2 (passed e3 (passed e4 c)))) = true≢false (sym (too-long (A .master) (A .algorithm) n h) ∙ e4)
 
 module _ (A : Agreement) (s : List ℕ) where
   some-fault : (k : List ℕ) → 32 < length k → ¬ (firstOf (slipFaults A k s) ≡ 0)
-  some-fault k h e = not-clear A (length k) (keysOf k) h (first-clear _ (agreement-numbered A k) (believed A k s e .settings))
+  some-fault k h e = not-clear A (length k) (inUse A k) h (first-clear _ (agreement-numbered A k) (believed A k s e .settings))
 
   same-fault : (k l : List ℕ) → 32 < length k → 32 < length l → firstOf (slipFaults A k s) ≡ firstOf (slipFaults A l s)
   unfolding slipFaults
   same-fault k l hk hl =
       first-same (layoutFaults s) _ _
       (first-same (25 given agreementUnmet A (sealField s) ∷ []) _ _
-      (four-latest A (length k) (keysOf k) _ hk ∙ sym (four-latest A (length l) (keysOf l) _ hl)))
+      (four-latest A (length k) (inUse A k) _ hk ∙ sym (four-latest A (length l) (inUse A l) _ hl)))
 
   -- any two such keys get the same answer
   long-keys : (k l : List ℕ) → 32 < length k → 32 < length l → readOf A k s ≡ readOf A l s

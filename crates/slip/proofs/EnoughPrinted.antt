@@ -13,7 +13,7 @@ use lib.Dec.{leb}
 use borrow.Author.Tests.{lt-ltb, le-ltb, leb-true, leb-false}
 use Rattle.bits.specs.Choice.{pick, firstOf}
 use Rattle.bits.proofs.Faults.{first-clear, first-same}
-use Rattle.keys.specs.Given.{keysOf}
+use Rattle.settings.specs.InUse.{inUse}
 use Rattle.settings.specs.declared.Agreement.{Agreement}
 use Rattle.fields.specs.Field.{outside}
 use Rattle.writing.specs.Writing.{Says, said, valueWrong, saysFaults}
@@ -50,11 +50,11 @@ module _ (A : Agreement) (keys room : List ℕ) where
 
 module _ (A : Agreement) (x : Says) (room : List ℕ) where
   some-fault : (k : List ℕ) → 32 < length k → ¬ (writeFault A k x room ≡ 0)
-  some-fault k h e = not-clear A (length k) (keysOf k) h (first-clear _ (agreement-numbered A k) (writable A k x room e .0 .settings))
+  some-fault k h e = not-clear A (length k) (inUse A k) h (first-clear _ (agreement-numbered A k) (writable A k x room e .0 .settings))
 
   same-fault : (k l : List ℕ) → 32 < length k → 32 < length l → writeFault A k x room ≡ writeFault A l x room
   unfolding writeFaults sealingFaults
-  same-fault k l hk hl = first-same (saysFaults x) _ _ (four-latest A (length k) (keysOf k) _ hk ∙ sym (four-latest A (length l) (keysOf l) _ hl))
+  same-fault k l hk hl = first-same (saysFaults x) _ _ (four-latest A (length k) (inUse A k) _ hk ∙ sym (four-latest A (length l) (inUse A l) _ hl))
 
   pub write-keys-33 : (k : List ℕ) → writeOf A (take 33 k) x room ≡ writeOf A k x room
   write-keys-33 k = go (leb (length k) 33) refl

@@ -27,7 +27,7 @@ use Rattle.mac.proofs.Numbers.{by-number}
 use Rattle.mac.proofs.Padded.{padded-length, blockCount-is}
 use Rattle.mac.proofs.OneBlock.{tag-long}
 use Rattle.mac.proofs.TagBytes.{length-tagBytes}
-use Rattle.keys.specs.Given.{keysOf}
+use Rattle.settings.specs.InUse.{inUse}
 use Rattle.settings.specs.Faults.{settingsRefusal}
 use Rattle.settings.proofs.Sound.{settings-alone, sound-size}
 use Rattle.settings.specs.Answers.{settingsOf}
@@ -81,14 +81,14 @@ module _ (S : Settings) (n : ℕ) (least : 17 ≤ n) (most : n ≤ 1048576) wher
 -- ---- a slip whose fields are clear
 
 pub agreement-numbered : (A : Agreement) (keys : List ℕ) → Numbered (agreementFaults A keys)
-agreement-numbered A keys = settings-alone A (length keys) (keysOf keys)
+agreement-numbered A keys = settings-alone A (length keys) (inUse A keys)
 
 -- the tag has as many bits as were agreed
 pub seal-bits : (A : Agreement) (keys s : List ℕ) → firstOf (agreementFaults A keys) ≡ 0 → length (sealBits A s keys) ≡ A .m
 unfolding tagAt settingsRefusal
 seal-bits A keys s sound =
-    let size = sound-size A (length keys) (keysOf keys) sound in
-    tag-long (cipherAt 1) (lawful-at 1) (algorithmAt (A .algorithm)) (methodAt (A .padding)) (keysOf keys) (A .m) (bitsOf (covered s) (8 * length (covered s))) (omega (arith, sm4-width, size))
+    let size = sound-size A (length keys) (inUse A keys) sound in
+    tag-long (cipherAt 1) (lawful-at 1) (algorithmAt (A .algorithm)) (methodAt (A .padding)) (inUse A keys) (A .m) (bitsOf (covered s) (8 * length (covered s))) (omega (arith, sm4-width, size))
 
 -- and the seal as many bytes as hold them
 pub seal-bytes : (A : Agreement) (keys s : List ℕ) → firstOf (agreementFaults A keys) ≡ 0 → length (sealDefined A s keys) ≡ bytesFor (A .m)

@@ -20,7 +20,7 @@ use Rattle.bits.specs.Choice.{pick, _given_, firstOf}
 use Rattle.bits.specs.Once.{Allowed}
 use Rattle.bits.proofs.Faults.{all, with, every-append, every-first, Numbered, also, none, numbered-append, clear-append, first-clear, clear-first, first-append, first-append-clear, Clear, passed, done}
 use Rattle.mac.specs.Tag.{bytesFor}
-use Rattle.keys.specs.Given.{keysOf}
+use Rattle.settings.specs.InUse.{inUse}
 use Rattle.settings.specs.Faults.{settingsFaults, settingsRefusal}
 use Rattle.settings.proofs.Sound.{sound-size}
 use Rattle.settings.specs.declared.Agreement.{Agreement}
@@ -125,7 +125,7 @@ module _ (A : Agreement) (keys : List ℕ) (x : Says) (room : List ℕ) where
   slip-few ok =
       let long = length-printed A keys x ok in
       let lot = sayable x (ok .says) .lot-length in
-      let size = sound-size A (length keys) (keysOf keys) (ok .settings) in
+      let size = sound-size A (length keys) (inUse A keys) (ok .settings) in
       (omega (arith, long, lot, size), omega (arith, long, lot, size))
 
   -- the tests before the room's give other numbers

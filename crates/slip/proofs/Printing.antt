@@ -15,7 +15,7 @@ use Rattle.bits.specs.Choice.{pick, _given_, firstOf}
 use Rattle.bits.proofs.Choice.{miss}
 use Rattle.bits.proofs.Faults.{first-append, first-append-clear}
 use Rattle.mac.specs.Tag.{bytesFor, tagBytes}
-use Rattle.keys.specs.Given.{keysOf}
+use Rattle.settings.specs.InUse.{unpacked, inUse}
 use Rattle.settings.specs.Faults.{settingsRefusal}
 use Rattle.settings.specs.Answers.{numberOf, settingsOf}
 use Rattle.settings.proofs.Sound.{sound-size}
@@ -81,7 +81,7 @@ module _ (A : Agreement) (keys front : List ℕ) (whole : covered front ≡ fron
 
   sound : no ≡ 0 → (0 < A .m) × (A .m ≤ 128)
   unfolding settingsRefusal
-  sound e = sound-size A (length keys) (keysOf keys) e
+  sound e = sound-size A (length keys) (inUse A keys) e
 
   pub only-settings : (b : List ℕ) → length b ≡ 16 → firstOf (oneCallFaults A keys (length front) (8 * length front) (roomShort (A .m) (length b))) ≡ no
   unfolding oneCallFaults roomShort bytesFor firstOf pick
@@ -96,21 +96,21 @@ module _ (A : Agreement) (keys front : List ℕ) (whole : covered front ≡ fron
       go false h = first-append (agreementFaults A keys) _ (eqb-false no 0 h)
 
   -- the seal is of the bytes given, all of them
-  seal-of : tagBytes (tagAt (settingsOf A) (keysOf keys) front (8 * length front)) ≡ sealDefined A front keys
+  seal-of : tagBytes (tagAt (settingsOf A) (inUse A keys) front (8 * length front)) ≡ sealDefined A front keys
   unfolding sealDefined
-  seal-of = ap (λ (s : List ℕ). tagBytes (tagAt (settingsOf A) (keysOf keys) s (8 * length s))) (sym whole)
+  seal-of = ap (λ (s : List ℕ). tagBytes (tagAt (settingsOf A) (inUse A keys) s (8 * length s))) (sym whole)
 
-  calls-of : callsAt (settingsOf A) (keysOf keys) front (8 * length front) ≡ sealCalls A front keys
+  calls-of : callsAt (settingsOf A) (unpacked A keys) front (8 * length front) ≡ sealCalls A front keys
   unfolding sealCalls
-  calls-of = ap (λ (s : List ℕ). callsAt (settingsOf A) (keysOf keys) s (8 * length s)) (sym whole)
+  calls-of = ap (λ (s : List ℕ). callsAt (settingsOf A) (unpacked A keys) s (8 * length s)) (sym whole)
 
   module _ (b room : List ℕ) (long : length b ≡ 16) where
     -- the tag's bytes stand at the front of what `make` leaves
-    tag-first : no ≡ 0 → take (bytesFor (A .m)) (tagBytes (tagAt (settingsOf A) (keysOf keys) front (8 * length front)) ++ drop (bytesFor (A .m)) b) ≡ sealDefined A front keys
+    tag-first : no ≡ 0 → take (bytesFor (A .m)) (tagBytes (tagAt (settingsOf A) (inUse A keys) front (8 * length front)) ++ drop (bytesFor (A .m)) b) ≡ sealDefined A front keys
     tag-first e = ap (λ (t : List ℕ). take (bytesFor (A .m)) (t ++ drop (bytesFor (A .m)) b)) seal-of ∙ take-at (sealDefined A front keys) (drop (bytesFor (A .m)) b) (bytesFor (A .m)) (seal-bytes A keys front e)
 
     abbrev made : ℕ → Outcome × List ℕ
-    made n = madeBy n (settingsOf A) (keysOf keys) front (8 * length front) b
+    made n = madeBy n (settingsOf A) (unpacked A keys) front (8 * length front) b
 
     by-fault : (n : ℕ) → no ≡ n → sealing A front room (made n .0) (made n .1) ≡ writeUnder A keys front room
     unfolding sealing madeBy writeUnder putOf sealingFaults pick

@@ -12,7 +12,7 @@ use lib.Seq.{drop-drop}
 use Rattle.bits.specs.Choice.{firstOf}
 use Rattle.mac.specs.Tag.{bytesFor, tagBytes}
 use Rattle.mac.proofs.TagBytes.{tagBytes-fit}
-use Rattle.keys.specs.Given.{keysOf}
+use Rattle.settings.specs.InUse.{unpacked, inUse}
 use Rattle.settings.specs.Faults.{settingsRefusal}
 use Rattle.settings.proofs.Sound.{sound-size, sound-bytes}
 use Rattle.settings.specs.declared.Agreement.{Agreement}
@@ -85,11 +85,11 @@ module _ (A : Agreement) (keys : List ℕ) (x : Says) (ok : Writable A keys x) w
   -- the seal that reading defines for the whole slip is the one that was made of its covered bytes
   seal-same : sealDefined A printed keys ≡ seal
   unfolding sealDefined
-  seal-same = ap (λ (c : List ℕ). tagBytes (tagAt (settingsOf A) (keysOf keys) c (8 * length c))) (covered-printed ∙ sym (covered-all x))
+  seal-same = ap (λ (c : List ℕ). tagBytes (tagAt (settingsOf A) (inUse A keys) c (8 * length c))) (covered-printed ∙ sym (covered-all x))
 
   calls-same : sealCalls A printed keys ≡ slipCalls A keys x
   unfolding sealCalls slipCalls
-  calls-same = ap (λ (c : List ℕ). callsAt (settingsOf A) (keysOf keys) c (8 * length c)) (covered-printed ∙ sym (covered-all x))
+  calls-same = ap (λ (c : List ℕ). callsAt (settingsOf A) (unpacked A keys) c (8 * length c)) (covered-printed ∙ sym (covered-all x))
 
   -- the seal has ⌈m/8⌉ bytes
   seal-long : length seal ≡ bytesFor (A .m)
@@ -102,15 +102,15 @@ module _ (A : Agreement) (keys : List ℕ) (x : Says) (ok : Writable A keys x) w
   -- every byte of the seal is one
   seal-fits : (i : ℕ) → getD (sealValue A seal) i 0 < 256
   unfolding sealDefined settingsRefusal
-  seal-fits zero = sound-bytes A (length keys) (keysOf keys) (ok .settings) .0
-  seal-fits (suc zero) = sound-bytes A (length keys) (keysOf keys) (ok .settings) .1 .0
-  seal-fits (suc (suc zero)) = sound-bytes A (length keys) (keysOf keys) (ok .settings) .1 .1
+  seal-fits zero = sound-bytes A (length keys) (inUse A keys) (ok .settings) .0
+  seal-fits (suc zero) = sound-bytes A (length keys) (inUse A keys) (ok .settings) .1 .0
+  seal-fits (suc (suc zero)) = sound-bytes A (length keys) (inUse A keys) (ok .settings) .1 .1
   seal-fits (suc (suc (suc i))) = tagBytes-fit _ i
 
   layout-printed : firstOf (layoutFaults printed) ≡ 0
   unfolding slipOf sealedBy settingsRefusal bytesFor
   layout-printed =
-      let size = sound-size A (length keys) (keysOf keys) (ok .settings) in
+      let size = sound-size A (length keys) (inUse A keys) (ok .settings) in
       let long = seal-long in
       layout-back x said-well (sealValue A seal) (omega (arith, long, size)) (omega (arith, long, size)) (any-byte (sealValue A seal) seal-fits)
 
@@ -154,12 +154,12 @@ module _ (A : Agreement) (keys s : List ℕ) (yes : Accepted A keys s) where
   pub read-printed : slipOf A keys (saysOf s) ≡ s
   unfolding slipOf sealedBy sealDefined
   read-printed =
-      ap₂ (λ (front c : List ℕ). front ++ fieldOf sealRow (sealValue A (tagBytes (tagAt (settingsOf A) (keysOf keys) c (8 * length c))))) (covered-again s (judged .fields)) front-again
+      ap₂ (λ (front c : List ℕ). front ++ fieldOf sealRow (sealValue A (tagBytes (tagAt (settingsOf A) (inUse A keys) c (8 * length c))))) (covered-again s (judged .fields)) front-again
       ∙ ap (λ (f : List ℕ). covered s ++ f) (sym (seal-is A keys s yes)) ∙ sym (covered-then-seal s (judged .fields))
 
   pub calls-again : slipCalls A keys (saysOf s) ≡ sealCalls A s keys
   unfolding slipCalls sealCalls
-  calls-again = ap (λ (c : List ℕ). callsAt (settingsOf A) (keysOf keys) c (8 * length c)) front-again
+  calls-again = ap (λ (c : List ℕ). callsAt (settingsOf A) (unpacked A keys) c (8 * length c)) front-again
 
 -- ---- both at once
 

@@ -26,7 +26,7 @@ use Rattle.mac.specs.Algorithm.{algorithmAt}
 use Rattle.mac.specs.Tag.{bitsOf, tagBytes}
 use Rattle.mac.proofs.OneBlock.{Apart}
 use Rattle.mac.proofs.Promised.{Promised, fullBytes, promised-at}
-use Rattle.keys.specs.Given.{keysOf}
+use Rattle.settings.specs.InUse.{inUse}
 use Rattle.settings.specs.declared.Settings.{Settings}
 use Rattle.tag.specs.OneCall.{tagAt}
 use Rattle.fields.specs.Format.{expiryRow, lotRow, amountRow, sealRow}
@@ -134,15 +134,15 @@ module _ (A : Agreement) (keys s t : List ℕ) (yes-s : Accepted A keys s) (yes-
       ∙ sym (covered-then-seal t (good A keys t yes-t .fields))
 
   -- a seal of full length, as demand 3 speaks of it
-  full-seal : A .m ≡ 128 → (x : List ℕ) → sealDefined A x keys ≡ fullBytes (cipherAt 1) (algorithmAt (A .algorithm)) (methodAt (A .padding)) (keysOf keys) (bytesBits (covered x))
+  full-seal : A .m ≡ 128 → (x : List ℕ) → sealDefined A x keys ≡ fullBytes (cipherAt 1) (algorithmAt (A .algorithm)) (methodAt (A .padding)) (inUse A keys) (bytesBits (covered x))
   unfolding sealDefined tagAt bitsOf
   full-seal full x =
-      ap (λ (m : ℕ). tagBytes (tagAt (record { algorithm = A .algorithm; padding = A .padding; m = m }) (keysOf keys) (covered x) (8 * length (covered x)))) (full ∙ sym sm4-width)
-      ∙ ap (fullBytes (cipherAt 1) (algorithmAt (A .algorithm)) (methodAt (A .padding)) (keysOf keys)) (take-all (8 * length (covered x)) (bytesBits (covered x)) (omega (arith, length-bytesBits (covered x))))
+      ap (λ (m : ℕ). tagBytes (tagAt (record { algorithm = A .algorithm; padding = A .padding; m = m }) (inUse A keys) (covered x) (8 * length (covered x)))) (full ∙ sym sm4-width)
+      ∙ ap (fullBytes (cipherAt 1) (algorithmAt (A .algorithm)) (methodAt (A .padding)) (inUse A keys)) (take-all (8 * length (covered x)) (bytesBits (covered x)) (omega (arith, length-bytesBits (covered x))))
 
   pub seals-differ : A .m ≡ 128 → (j : ℕ) → Apart 128 j (bytesBits (covered s)) (bytesBits (covered t)) → ¬ (s ≡ t) → ¬ (tagNamed s ≡ tagNamed t)
   seals-differ full j h differ e =
       let long : length (covered s) ≡ length (covered t) = omega (arith, h .same-length, length-bytesBits (covered s), length-bytesBits (covered t)) in
-      promised-at 1 (algorithmAt (A .algorithm)) (methodAt (A .padding)) (keysOf keys) .differs-bytes j (bytesBits (covered s)) (bytesBits (covered t)) (subst (λ (k : ℕ). Apart k j (bytesBits (covered s)) (bytesBits (covered t))) (sym sm4-width) h)
+      promised-at 1 (algorithmAt (A .algorithm)) (methodAt (A .padding)) (inUse A keys) .differs-bytes j (bytesBits (covered s)) (bytesBits (covered t)) (subst (λ (k : ℕ). Apart k j (bytesBits (covered s)) (bytesBits (covered t))) (sym sm4-width) h)
       (λ same. differ (equal-slips (bytesBits-inj (covered s) (covered t) (fit-covered s (slip-bytes s (good A keys s yes-s .fields))) (fit-covered t (slip-bytes t (good A keys t yes-t .fields))) long same)))
       (sym (full-seal full s) ∙ sym (tag-defined A keys s yes-s) ∙ e ∙ tag-defined A keys t yes-t ∙ full-seal full t)

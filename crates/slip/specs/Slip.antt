@@ -9,7 +9,7 @@ use lib.Dec.{eqb}
 use Rattle.bits.specs.Choice.{pick, Fault, _given_, firstOf}
 use Rattle.bits.specs.Str.{Bits, sameBytes}
 use Rattle.mac.specs.Tag.{tagBytes}
-use Rattle.keys.specs.Given.{keysOf}
+use Rattle.settings.specs.InUse.{unpacked, inUse}
 use Rattle.settings.specs.Faults.{settingsFaults}
 use Rattle.settings.specs.Answers.{settingsOf}
 use Rattle.message.specs.Faults.{tagLengthWrong}
@@ -44,13 +44,13 @@ tagNamed s = drop 3 (value (sealField s))
 
 -- the tag of these bytes that an agreement and keys give, and the seal: its bits in bytes
 abbrev pub sealBits : Agreement → List ℕ → List ℕ → Bits
-sealBits A s keys = tagAt (settingsOf A) (keysOf keys) (covered s) (8 * length (covered s))
+sealBits A s keys = tagAt (settingsOf A) (inUse A keys) (covered s) (8 * length (covered s))
 
 unfoldable pub sealDefined : Agreement → List ℕ → List ℕ → List ℕ
 sealDefined A s keys = tagBytes (sealBits A s keys)
 
 unfoldable pub sealCalls : Agreement → List ℕ → List ℕ → ℕ
-sealCalls A s keys = callsAt (settingsOf A) (keysOf keys) (covered s) (8 * length (covered s))
+sealCalls A s keys = callsAt (settingsOf A) (unpacked A keys) (covered s) (8 * length (covered s))
 
 -- 30: the seal is wrong
 unfoldable pub sealWrong : Agreement → List ℕ → List ℕ → Bool
@@ -60,7 +60,7 @@ sealWrong A s keys = not (sameBytes (tagNamed s) (sealDefined A s keys))
 
 -- 1 to 6 for an agreement and keys
 abbrev pub agreementFaults : Agreement → List ℕ → List Fault
-agreementFaults A keys = settingsFaults A (length keys) (keysOf keys)
+agreementFaults A keys = settingsFaults A (length keys) (inUse A keys)
 
 unfoldable pub slipFaults : Agreement → List ℕ → List ℕ → List Fault
 slipFaults A keys s =

@@ -3,13 +3,13 @@
 -- exactly where the tag given at the start is the definition's for the joined bits, and the struct closed and zero (`c-checked`,
 -- `c-yes-exactly`); `slipseal_check` in one call says the same (`c-same-as-one-check`). An accepted start leaves the session open
 -- (`start-check-open`). A finish of the other purpose gets 11 and the very struct (`c-finish-other`, `c-check-other`), and so does any
--- call on a struct whose purpose is neither 0 nor 1 (`c-odd-piece`, `c-odd-finish`, `c-odd-check`). Expected bytes past those of the
+-- call on a struct whose phase, purpose or master is none that a session has (`c-odd-piece`, `c-odd-finish`, `c-odd-check`). Expected bytes past those of the
 -- agreed bits have no influence (`c-check-free`).
 -- Assumes nothing.
 use mathlib.Core.Path.{_≡_, refl, sym, ap, _∙_, subst}
 use mathlib.Core.Bool.{Bool, true, false}
 use mathlib.Core.List.{List}
-use Prim.Native.Nat.{ℕ, _<_}
+use Prim.Native.Nat.{ℕ}
 use native.Mathlib.Omega.{arith}
 use lib.ListN.{take}
 use contract.Lifetimes.{Lfts}
@@ -20,7 +20,7 @@ use Rattle.bits.specs.Str.{Bits, sameBytes}
 use Rattle.bits.proofs.Same.{sameBytes-true, sameBytes-eq}
 use Rattle.mac.specs.Tag.{bytesFor}
 use Rattle.mac.specs.Session.{joined}
-use Rattle.keys.specs.Given.{keysOf}
+use Rattle.settings.specs.InUse.{unpacked, inUse}
 use Rattle.settings.specs.Answers.{numberOf, reportedCalls}
 use Rattle.settings.specs.declared.Agreement.{Agreement}
 use Rattle.settings.specs.declared.Outcome.the-variants.{Yes, No}
@@ -40,8 +40,8 @@ use Rattle.session.proofs.OtherPurpose.{other-finish, other-check, check-aimed}
 use Rattle.slipseal.specs.declared.Answer.{Answer}
 use Rattle.slipseal.specs.declared.Session.{Session}
 use Rattle.slipseal.specs.declared.Step.{Step}
-use Rattle.slipseal.specs.Border.{yesOf, toldOf, purposeFrom, inward, outward, handedOut, handedBack, finishedBack}
-use Rattle.slipseal.proofs.Crossing.{out-and-in, refused11, odd-purpose, odd-piece, odd-finish, odd-check}
+use Rattle.slipseal.specs.Border.{agreedOf, yesOf, toldOf, purposeFrom, inward, outward, handedOut, handedBack, finishedBack}
+use Rattle.slipseal.proofs.Crossing.{out-and-in, refused11, Odd, odd-piece, odd-finish, odd-check}
 use Rattle.slipseal.proofs.Runs.{back-answer, Pieced, Finished, FinishedCheck, judging, finish-check-number, Run, run-inward}
 use Rattle.slipseal.proofs.slipseal_check.Kinds as check-k
 use Rattle.slipseal.proofs.slipseal_check.Reads as check
@@ -61,7 +61,7 @@ Checking κs a = Allowed check-k.ps check-k.r check.Learnt κs a
 
 module _ (κs : Lfts 2) (a : Dens κs start-check-k.ps) (x : StartedCheck κs a) where
   abbrev begun : session-step.Step
-  begun = startCheckOf (a .0) (a .1 .0 .now) (a .1 .1 .0) (a .1 .1 .1 .0 .now)
+  begun = startCheckOf (agreedOf (a .0)) (a .1 .0 .now) (a .1 .1 .0) (a .1 .1 .1 .0 .now)
 
   start-check-number : x .result .answer .number ≡ numberOf (begun .answer)
   unfolding handedOut toldOf
@@ -73,18 +73,18 @@ module _ (κs : Lfts 2) (a : Dens κs start-check-k.ps) (x : StartedCheck κs a)
   start-check-in = ap (λ (r : Step). inward (r .session)) (x .ensures) ∙ out-and-in (begun .session)
 
   pub start-check-open : x .result .answer .number ≡ 0 → Running (inward (x .result .session))
-  start-check-open u = let e = start-check-in in rw e (start-check-opens (a .0) (a .1 .0 .now) (a .1 .1 .0) (a .1 .1 .1 .0 .now) (sym start-check-number ∙ u))
+  start-check-open u = let e = start-check-in in rw e (start-check-opens (agreedOf (a .0)) (a .1 .0 .now) (a .1 .1 .0) (a .1 .1 .1 .0 .now) (sym start-check-number ∙ u))
 
 module _ (κs : Lfts 1) (a : Dens κs piece-k.ps) (x : Pieced κs a) where
-  pub c-odd-piece : 1 < a .0 .purpose → x .result ≡ refused11 (a .0)
-  c-odd-piece h = x .ensures ∙ odd-piece (a .0) (odd-purpose (a .0) h) (a .1 .0 .now) (a .1 .1 .0)
+  pub c-odd-piece : Odd (a .0) → x .result ≡ refused11 (a .0)
+  c-odd-piece h = x .ensures ∙ odd-piece (a .0) h (a .1 .0 .now) (a .1 .1 .0)
 
 module _ (κs : Lfts 1) (a : Dens κs finish-k.ps) (x : Finished κs a) where
   both : _≡_ {A = Step × List ℕ} (x .result, x .last .1 .0) (refused11 (a .0), a .1 .0 .now) → (x .result ≡ refused11 (a .0)) × (x .last .1 .0 ≡ a .1 .0 .now)
   both e = (ap (λ (r : Step × List ℕ). r .0) e, ap (λ (r : Step × List ℕ). r .1) e)
 
-  pub c-odd-finish : 1 < a .0 .purpose → (x .result ≡ refused11 (a .0)) × (x .last .1 .0 ≡ a .1 .0 .now)
-  c-odd-finish h = both (x .ensures ∙ odd-finish (a .0) (odd-purpose (a .0) h) (a .1 .0 .now))
+  pub c-odd-finish : Odd (a .0) → (x .result ≡ refused11 (a .0)) × (x .last .1 .0 ≡ a .1 .0 .now)
+  c-odd-finish h = both (x .ensures ∙ odd-finish (a .0) h (a .1 .0 .now))
 
   pub c-finish-other : a .0 .purpose ≡ 1 → (x .result ≡ refused11 (a .0)) × (x .last .1 .0 ≡ a .1 .0 .now)
   unfolding inward purposeFrom pick finishedBack handedBack toldOf numberOf yesOf reportedCalls
@@ -94,8 +94,8 @@ module _ (κs : Lfts 1) (a : Dens κs finish-k.ps) (x : Finished κs a) where
       checks-it = ap purposeFrom e
 
 module _ (κs : Lfts 0) (a : Dens κs finish-check-k.ps) (x : FinishedCheck κs a) where
-  pub c-odd-check : 1 < a .0 .purpose → x .result ≡ refused11 (a .0)
-  c-odd-check h = x .ensures ∙ odd-check (a .0) (odd-purpose (a .0) h)
+  pub c-odd-check : Odd (a .0) → x .result ≡ refused11 (a .0)
+  c-odd-check h = x .ensures ∙ odd-check (a .0) h
 
   pub c-check-other : a .0 .purpose ≡ 0 → x .result ≡ refused11 (a .0)
   unfolding inward purposeFrom pick handedBack toldOf numberOf yesOf reportedCalls
@@ -122,7 +122,7 @@ expectingOther e r = record {
 module _ (e : List ℕ) (κs : Lfts 0) (a : Dens κs finish-check-k.ps) (x : FinishedCheck κs a) (λs : Lfts 0) (b : Dens λs finish-check-k.ps) (y : FinishedCheck λs b) where
   pub c-check-free : a .0 .purpose ≡ 1 → b .0 ≡ expectingOther e (a .0) → take (bytesFor (a .0 .agreement .m)) e ≡ take (bytesFor (a .0 .agreement .m)) (a .0 .expected)
       → y .result .answer ≡ x .result .answer
-  unfolding inward aimed purposeFrom pick
+  unfolding agreedOf inward aimed purposeFrom pick
   c-check-free mine same bytes =
       ap (λ (r : Step). r .answer) (y .ensures) ∙ back-answer (b .0) (finishCheckOf (inward (b .0)))
       ∙ ap (λ (r : Session). toldOf (finishCheckOf (inward r) .answer)) same
@@ -152,7 +152,7 @@ pub record CheckRan : Type 0 where
 
 module _ (r : CheckRan) where
   abbrev pub agreed : Agreement
-  agreed = r .given .0
+  agreed = agreedOf (r .given .0)
 
   abbrev pub keyed : List ℕ
   keyed = r .given .1 .0 .now
@@ -191,18 +191,18 @@ module _ (r : CheckRan) where
   ends-so : r .last .result ≡ handedOut ending
   ends-so = r .last .ensures ∙ ap (handedBack (r .came .0)) at-end ∙ back ending judged-so
 
-  pub c-checked : r .last .result ≡ record { answer = record { number = 0; yes = pick (sameBytes expecting (tagged agreed (keysOf keyed) told)) 1 0; calls = listed agreed (keysOf keyed) told }; session = outward cleared }
+  pub c-checked : r .last .result ≡ record { answer = record { number = 0; yes = pick (sameBytes expecting (tagged agreed (inUse agreed keyed) told)) 1 0; calls = listed agreed (unpacked agreed keyed) told }; session = outward cleared }
   unfolding handedOut
   c-checked =
       ends-so ∙ ap handedOut (joined-check agreed keyed d expecting begun-so (r .acts) judged-so)
       ∙ ap (λ (t : session.Session). record { answer = toldOf (verdictOf agreed keyed (joined (gathered t (r .acts))) expecting); session = outward cleared }) (sym began)
-      ∙ ap (λ (o : Answer). record { answer = o; session = outward cleared }) (told-verdict (sameBytes expecting (tagged agreed (keysOf keyed) told)) (listed agreed (keysOf keyed) told))
+      ∙ ap (λ (o : Answer). record { answer = o; session = outward cleared }) (told-verdict (sameBytes expecting (tagged agreed (inUse agreed keyed) told)) (listed agreed (unpacked agreed keyed) told))
 
-  pub c-yes-exactly : (r .last .result .answer .yes ≡ 1 → expecting ≡ tagged agreed (keysOf keyed) told) × (expecting ≡ tagged agreed (keysOf keyed) told → r .last .result .answer .yes ≡ 1)
+  pub c-yes-exactly : (r .last .result .answer .yes ≡ 1 → expecting ≡ tagged agreed (inUse agreed keyed) told) × (expecting ≡ tagged agreed (inUse agreed keyed) told → r .last .result .answer .yes ≡ 1)
   unfolding pick
-  c-yes-exactly = (λ e. sameBytes-eq expecting _ (tested (sameBytes expecting (tagged agreed (keysOf keyed) told)) (sym says ∙ e)), λ e. says ∙ ap (λ (b : Bool). pick b 1 0) (sameBytes-true expecting _ e))
+  c-yes-exactly = (λ e. sameBytes-eq expecting _ (tested (sameBytes expecting (tagged agreed (inUse agreed keyed) told)) (sym says ∙ e)), λ e. says ∙ ap (λ (b : Bool). pick b 1 0) (sameBytes-true expecting _ e))
     where
-      says : r .last .result .answer .yes ≡ pick (sameBytes expecting (tagged agreed (keysOf keyed) told)) 1 0
+      says : r .last .result .answer .yes ≡ pick (sameBytes expecting (tagged agreed (inUse agreed keyed) told)) 1 0
       says = ap (λ (t : Step). t .answer .yes) c-checked
 
       tested : (b : Bool) → _≡_ {A = ℕ} (pick b 1 0) 1 → b ≡ true
@@ -211,7 +211,7 @@ module _ (r : CheckRan) where
 
   -- and one call of `slipseal_check` under the same agreement and keys, with the joined bits and the same tag
   module _ (bytes : List ℕ) (l : ℕ) (holds : Holds bytes l told) (κs : Lfts 3) (b : Dens κs check-k.ps) (y : Checking κs b)
-      (same-agreed : b .0 ≡ agreed) (same-keys : b .1 .0 .now ≡ keyed) (same-bytes : b .1 .1 .0 .now ≡ bytes) (same-bits : b .1 .1 .1 .0 ≡ l) (same-tag : b .1 .1 .1 .1 .0 .now ≡ expecting) where
+      (same-agreed : agreedOf (b .0) ≡ agreed) (same-keys : b .1 .0 .now ≡ keyed) (same-bytes : b .1 .1 .0 .now ≡ bytes) (same-bits : b .1 .1 .1 .0 ≡ l) (same-tag : b .1 .1 .1 .1 .0 .now ≡ expecting) where
     pub c-same-as-one-check : r .last .result ≡ record { answer = y .result; session = outward cleared }
     unfolding handedOut
     c-same-as-one-check =

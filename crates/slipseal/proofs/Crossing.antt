@@ -1,28 +1,30 @@
 -- A session crosses the border and loses nothing: what goes out and comes in again is the very record (`out-and-in`), and a struct
--- whose phase is one of the three, with the part count that belongs to it, and whose purpose is one of the two goes in and comes out as
--- it was (`in-and-out`). Any other struct counts as closed (`odd-purpose` for its purpose), and piece and both finishes hand it back
--- untouched (`odd-piece`, `odd-finish`, `odd-check`).
+-- whose phase is one of the three, with the part count that belongs to it, and whose purpose and master are 0 or 1 goes in and comes out
+-- as it was (`in-and-out`). Any other struct counts as closed (`odd-purpose` for its purpose, `odd-master` for its master), and piece and
+-- both finishes hand it back untouched (`odd-piece`, `odd-finish`, `odd-check`). In an agreement any number but 0 is a master
+-- (`any-yes`).
 -- Assumes nothing.
-use mathlib.Core.Path.{_≡_, refl}
-use mathlib.Core.Bool.{true, false}
+use mathlib.Core.Path.{_≡_, refl, ap}
+use mathlib.Core.Bool.{Bool, true, false, not}
 use mathlib.Core.List.{List}
 use Prim.Native.Nat.{ℕ, _<_}
-use borrow.Author.Tests.{lt-ltb}
-use lib.Dec.{ltb}
+use borrow.Author.Tests.{lt-ltb, ne-eqb}
+use lib.Dec.{eqb, ltb}
 use Rattle.bits.specs.Choice.{pick, firstOf}
 use Rattle.settings.specs.Answers.{numberOf, reportedCalls}
 use Rattle.session.specs.declared.Phase.{Phase}
 use Rattle.session.specs.declared.Phase.the-variants.{Closed, Edge, Part}
 use Rattle.session.specs.declared.Purpose.{Purpose}
 use Rattle.session.specs.declared.Purpose.the-variants.{Making, Checking}
-use Rattle.settings.specs.declared.Agreement.{Agreement}
+use Rattle.settings.specs.declared.Agreement as settings-agreement
 use Rattle.session.specs.declared.Session as session
 use Rattle.session.specs.declared.Step as session-step
 use Rattle.session.specs.Record.{phaseUnfit, closedFaults, countsClosed}
 use Rattle.session.specs.Calls.{pieceFaults, pieceOf, endFaults, finishFaults, finishOf, finishCheckFaults, finishCheckOf}
+use Rattle.slipseal.specs.declared.Agreement.{Agreement}
 use Rattle.slipseal.specs.declared.Session.{Session}
 use Rattle.slipseal.specs.declared.Step.{Step}
-use Rattle.slipseal.specs.Border.{yesOf, toldOf, phaseFrom, phaseNumber, partNumber, purposeFrom, purposeNumber, inward, outward, handedBack, finishedBack}
+use Rattle.slipseal.specs.Border.{agreedOf, masterNumber, agreedBack, yesOf, toldOf, phaseFrom, phaseNumber, partNumber, purposeFrom, purposeNumber, inward, outward, handedBack, finishedBack}
 
 -- ---- out and in
 
@@ -31,20 +33,41 @@ unfolding purposeNumber
 two-purposes Making = refl
 two-purposes Checking = refl
 
-phase-back : (p : Phase) (q : Purpose) → phaseFrom (phaseNumber p) (partNumber p) (purposeNumber q) ≡ p
+two-masters : (b : Bool) → ltb 1 (pick b 1 0) ≡ false
+unfolding pick
+two-masters true = refl
+two-masters false = refl
+
+phase-back : (p : Phase) (q : Purpose) (b : Bool) → phaseFrom (phaseNumber p) (partNumber p) (purposeNumber q) (pick b 1 0) ≡ p
 unfolding phaseFrom phaseNumber partNumber pick
-phase-back Closed q = rw (two-purposes q) refl
-phase-back Edge q = rw (two-purposes q) refl
-phase-back (Part n) q = rw (two-purposes q) refl
+phase-back Closed q b = rw (two-purposes q, two-masters b) refl
+phase-back Edge q b = rw (two-purposes q, two-masters b) refl
+phase-back (Part n) q b = rw (two-purposes q, two-masters b) refl
 
 purpose-back : (q : Purpose) → purposeFrom (purposeNumber q) ≡ q
 unfolding purposeFrom purposeNumber pick
 purpose-back Making = refl
 purpose-back Checking = refl
 
+agreed-back : (A : settings-agreement.Agreement) → agreedOf (agreedBack A) ≡ A
+unfolding agreedOf agreedBack masterNumber pick
+agreed-back A = go (A .master)
+  where
+    told : Bool → settings-agreement.Agreement
+    told b = record { algorithm = A .algorithm; padding = A .padding; m = A .m; master = b }
+
+    go : (b : Bool) → told (not (eqb (pick b 1 0) 0)) ≡ told b
+    go true = refl
+    go false = refl
+
+-- any number but 0 is yes
+pub any-yes : (A : Agreement) → ¬ (A .master ≡ 0) → agreedOf A .master ≡ true
+unfolding agreedOf
+any-yes A some = ap not (ne-eqb (A .master) 0 some)
+
 pub out-and-in : (s : session.Session) → inward (outward s) ≡ s
-unfolding inward outward
-out-and-in s = rw (phase-back (s .phase) (s .purpose), purpose-back (s .purpose)) refl
+unfolding inward outward agreedBack masterNumber
+out-and-in s = rw (phase-back (s .phase) (s .purpose) (s .agreement .master), purpose-back (s .purpose), agreed-back (s .agreement)) refl
 
 -- ---- in and out
 
@@ -54,35 +77,42 @@ pub data Proper : ℕ → ℕ → Type 0 where
   edge : Proper 1 0
   part : (n : ℕ) → Proper 2 n
 
--- the two purposes
-pub data Purposeful : ℕ → Type 0 where
-  making : Purposeful 0
-  checking : Purposeful 1
+-- the two numbers of a purpose, and of a master
+pub data Flag : ℕ → Type 0 where
+  off : Flag 0
+  on : Flag 1
 
-not-odd : (q : ℕ) → Purposeful q → ltb 1 q ≡ false
-not-odd _ making = refl
-not-odd _ checking = refl
+not-odd : (q : ℕ) → Flag q → ltb 1 q ≡ false
+not-odd _ off = refl
+not-odd _ on = refl
 
-phase-kept : (phase n q : ℕ) → Proper phase n → Purposeful q → phaseNumber (phaseFrom phase n q) ≡ phase
-unfolding phaseFrom phaseNumber pick
-phase-kept _ _ q shut h = rw (not-odd q h) refl
-phase-kept _ _ q edge h = rw (not-odd q h) refl
-phase-kept _ _ q (part n) h = rw (not-odd q h) refl
+-- a struct as a session has it
+pub record Fit (r : Session) : Type 0 where
+  pub phase : Proper (r .phase) (r .part)
+  pub purpose : Flag (r .purpose)
+  pub master : Flag (r .agreement .master)
 
-part-kept : (phase n q : ℕ) → Proper phase n → Purposeful q → partNumber (phaseFrom phase n q) ≡ n
-unfolding phaseFrom partNumber pick
-part-kept _ _ q shut h = rw (not-odd q h) refl
-part-kept _ _ q edge h = rw (not-odd q h) refl
-part-kept _ _ q (part n) h = rw (not-odd q h) refl
+phase-same : (phase n q b : ℕ) → Proper phase n → Flag q → Flag b → (phaseNumber (phaseFrom phase n q b) ≡ phase) × (partNumber (phaseFrom phase n q b) ≡ n)
+unfolding phaseFrom phaseNumber partNumber pick
+phase-same _ _ q b shut h k = rw (not-odd q h, not-odd b k) (refl, refl)
+phase-same _ _ q b edge h k = rw (not-odd q h, not-odd b k) (refl, refl)
+phase-same _ _ q b (part n) h k = rw (not-odd q h, not-odd b k) (refl, refl)
 
-purpose-kept : (q : ℕ) → Purposeful q → purposeNumber (purposeFrom q) ≡ q
+purpose-kept : (q : ℕ) → Flag q → purposeNumber (purposeFrom q) ≡ q
 unfolding purposeFrom purposeNumber pick
-purpose-kept _ making = refl
-purpose-kept _ checking = refl
+purpose-kept _ off = refl
+purpose-kept _ on = refl
 
-pub in-and-out : (r : Session) → Proper (r .phase) (r .part) → Purposeful (r .purpose) → outward (inward r) ≡ r
-unfolding inward outward
-in-and-out r h q = rw (phase-kept (r .phase) (r .part) (r .purpose) h q, part-kept (r .phase) (r .part) (r .purpose) h q, purpose-kept (r .purpose) q) refl
+master-kept : (b : ℕ) → Flag b → pick (not (eqb b 0)) 1 0 ≡ b
+unfolding pick
+master-kept _ off = refl
+master-kept _ on = refl
+
+pub in-and-out : (r : Session) → Fit r → outward (inward r) ≡ r
+unfolding inward outward agreedOf agreedBack masterNumber
+in-and-out r h =
+    let both = phase-same (r .phase) (r .part) (r .purpose) (r .agreement .master) (h .phase) (h .purpose) (h .master) in
+    rw (both .0, both .1, purpose-kept (r .purpose) (h .purpose), master-kept (r .agreement .master) (h .master)) refl
 
 -- ---- any other struct: its phase is read as closed
 
@@ -91,13 +121,21 @@ abbrev pub refused11 : Session → Step
 refused11 r = record { answer = record { number = 11; yes = 0; calls = 0 }; session = r }
 
 module _ (r : Session) where
-  -- its phase and part, or its purpose, are none that a session has
+  -- its phase and part, its purpose, or its master are none that a session has
   abbrev pub Odd : Type 0
-  Odd = phaseFrom (r .phase) (r .part) (r .purpose) ≡ Closed
+  Odd = phaseFrom (r .phase) (r .part) (r .purpose) (r .agreement .master) ≡ Closed
 
   pub odd-purpose : 1 < r .purpose → Odd
   unfolding phaseFrom pick
   odd-purpose h = rw (lt-ltb 1 (r .purpose) h) refl
+
+  pub odd-master : 1 < r .agreement .master → Odd
+  unfolding phaseFrom pick
+  odd-master h = rw (lt-ltb 1 (r .agreement .master) h) (either (ltb 1 (r .purpose)))
+    where
+      either : (b : Bool) → pick b Closed Closed ≡ Closed
+      either true = refl
+      either false = refl
 
   pub odd-closed : Odd → countsClosed (inward r) ≡ true
   unfolding countsClosed closedFaults firstOf inward phaseUnfit pick

@@ -1,4 +1,5 @@
 pub mod Crossing
+pub mod AsAgreed
 pub mod Runs
 pub mod CheckRuns
 pub mod Slips

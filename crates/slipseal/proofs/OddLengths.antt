@@ -21,7 +21,8 @@ use Rattle.slip.proofs.Whole.{Accepted, Whole, whole}
 use Rattle.slip.proofs.Numbers.{number-is, keysRead, slipRead}
 use Rattle.slip.proofs.OddLengths.{Added, added-to, Sound, add-sound, read-added, read-record, lot-bytes, nothing-short, nothing-long}
 use Rattle.slipseal.specs.declared.Slip.{Slip}
-use Rattle.slipseal.specs.Border.{toldSlip}
+use Rattle.slipseal.specs.Border.{agreedOf, toldSlip}
+use Rattle.slipseal.proofs.AsAgreed.{asRead}
 use Rattle.slipseal.proofs.Slips.{Read, contentsIn}
 use Rattle.slipseal.proofs.slipseal_read.Kinds as one-k
 use Rattle.slipseal.proofs.slipseal_gather.Kinds as gather-k
@@ -55,7 +56,7 @@ c-gather-sound κs a x = add-sound κs a x
 -- what was asked: the agreement, the keys and the record
 module _ (κs : Lfts 1) (a : Dens κs read-k.ps) where
   abbrev pub agreementAsked : Agreement
-  agreementAsked = a .0
+  agreementAsked = agreedOf (a .0)
 
   abbrev pub keysAsked : List ℕ
   keysAsked = a .1 .0 .now
@@ -78,7 +79,7 @@ module _ (κs : Lfts 1) (a : Dens κs read-k.ps) (y : Asked κs a) where
     joined-is = y .ensures ∙ ap toldSlip (read-record A keys (flatten reads) _ (zeros-to reads _ run))
 
     -- as `slipseal_read` answers for the reads joined in one piece
-    pub c-gathered-joined : (λs : Lfts 2) (b : Dens λs one-k.ps) (x : Read λs b) → b .0 ≡ A → keysRead λs b ≡ keys → slipRead λs b ≡ flatten reads → y .result ≡ x .result
+    pub c-gathered-joined : (λs : Lfts 2) (b : Dens λs one-k.ps) (x : Read λs b) → agreedOf (b .0) ≡ A → keysRead λs (asRead λs b) ≡ keys → slipRead λs (asRead λs b) ≡ flatten reads → y .result ≡ x .result
     c-gathered-joined λs b x agreed keyed lent = joined-is ∙ sym (x .ensures ∙ λ i. toldSlip (readOf (agreed i) (keyed i) (lent i)))
 
     accepted : y .result .number ≡ 0 → Accepted A keys (flatten reads)

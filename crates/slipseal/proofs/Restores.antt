@@ -21,7 +21,7 @@ use Rattle.bits.specs.Choice.{pick, _given_, firstOf}
 use Rattle.bits.specs.Once.{Allowed}
 use Rattle.bits.proofs.Same.{sameBytes-eq}
 use Rattle.mac.specs.Tag.{bitsOf}
-use Rattle.keys.specs.Given.{keysOf}
+use Rattle.settings.specs.InUse.{inUse}
 use Rattle.settings.specs.Answers.{numberOf}
 use Rattle.settings.specs.Faults.{paddingWrong}
 use Rattle.settings.specs.declared.Agreement.{Agreement}
@@ -36,6 +36,7 @@ use Rattle.tag.proofs.RestoredBlock.{restoreFault, restore-faults, refused-of, 
 use Rattle.tag.proofs.RestoreAnswers.{RestoreAt}
 use Rattle.slipseal.specs.declared.Answer.{Answer}
 use Rattle.slipseal.specs.Border.{yesOf, toldOf, toldRestored}
+use Rattle.slipseal.proofs.AsAgreed.{asCheck, asRestore}
 use Rattle.slipseal.proofs.CheckRuns.{Checking}
 use Rattle.slipseal.proofs.slipseal_check.Kinds as check-k
 use Rattle.slipseal.proofs.slipseal_restore.Kinds as restore-k
@@ -43,7 +44,7 @@ use Rattle.slipseal.proofs.slipseal_restore.Reads as restore
 
 -- ---- what `slipseal_check` says
 
-module _ (λs : Lfts 3) (b : Dens λs check-k.ps) (z : Checking λs b) {A : Agreement} {s m : List ℕ} {l : ℕ} {t : List ℕ} (at : CheckAt λs b A s m l t) where
+module _ (λs : Lfts 3) (b : Dens λs check-k.ps) (z : Checking λs b) {A : Agreement} {s m : List ℕ} {l : ℕ} {t : List ℕ} (at : CheckAt λs (asCheck λs b) A s m l t) where
   check-at : z .result ≡ toldOf (checkOf A s m l t)
   check-at = z .ensures ∙ (λ i. toldOf (checkOf (at .agreed i) (at .keyed i) (at .lent i) (at .counted i) (at .offered i)))
 
@@ -54,7 +55,7 @@ yes-told true true calls number e = (refl, refl)
 yes-told true false calls number e = absurd (omega arith)
 yes-told false d calls number e = absurd (omega arith)
 
-yes-means : (A : Agreement) (s m : List ℕ) (l : ℕ) (t : List ℕ) → toldOf (checkOf A s m l t) .yes ≡ 1 → (checkFault A s m l t ≡ 0) × (t ≡ tagged A (keysOf s) (bitsOf m l))
+yes-means : (A : Agreement) (s m : List ℕ) (l : ℕ) (t : List ℕ) → toldOf (checkOf A s m l t) .yes ≡ 1 → (checkFault A s m l t ≡ 0) × (t ≡ tagged A (inUse A s) (bitsOf m l))
 unfolding toldOf checkOf checkedBy tagAt
 yes-means A s m l t e = let both = yes-told _ _ _ _ e in (eqb-true _ 0 (both .0), sameBytes-eq t _ (both .1))
 
@@ -68,7 +69,7 @@ module _ (κs : Lfts 3) (a : Dens κs restore-k.ps) (x : Restoring κs a) where
   abbrev pub messageLeft : List ℕ
   messageLeft = x .last .1 .1 .0
 
-  module _ {A : Agreement} {s message : List ℕ} {l j : ℕ} {t : List ℕ} (at : RestoreAt κs a A s message l j t) where
+  module _ {A : Agreement} {s message : List ℕ} {l j : ℕ} {t : List ℕ} (at : RestoreAt κs (asRestore κs a) A s message l j t) where
     answer-at : (x .result, messageLeft) ≡ toldRestored (restoreOf A s message l j t)
     answer-at = x .ensures ∙ (λ i. toldRestored (restoreOf (at .agreed i) (at .keyed i) (at .lent i) (at .counted i) (at .numbered i) (at .offered i)))
 
@@ -93,7 +94,7 @@ module _ (κs : Lfts 3) (a : Dens κs restore-k.ps) (x : Restoring κs a) where
       none : restoreFault A s message l j t ≡ 0
       none = sym c-restore-number ∙ filled
 
-      pub c-restore-checks : ((i : ℕ) → getD t i 0 < 256) → (λs : Lfts 3) (b : Dens λs check-k.ps) (z : Checking λs b) → CheckAt λs b A s messageLeft l t
+      pub c-restore-checks : ((i : ℕ) → getD t i 0 < 256) → (λs : Lfts 3) (b : Dens λs check-k.ps) (z : Checking λs b) → CheckAt λs (asCheck λs b) A s messageLeft l t
           → (z .result .number ≡ 0) × (z .result .yes ≡ 1)
       unfolding toldOf numberOf yesOf
       c-restore-checks bytes λs b z bt =
@@ -101,7 +102,7 @@ module _ (κs : Lfts 3) (a : Dens κs restore-k.ps) (x : Restoring κs a) where
           (ap (λ (r : Answer). r .number) says, ap (λ (r : Answer). r .yes) says)
 
       pub c-restore-only : (f : List ℕ) → length f ≡ size → ((i : ℕ) → getD f i 0 < 256) → (λs : Lfts 3) (b : Dens λs check-k.ps) (z : Checking λs b)
-          → CheckAt λs b A s (withBlock j message f) l t → z .result .yes ≡ 1 → withBlock j message f ≡ messageLeft
+          → CheckAt λs (asCheck λs b) A s (withBlock j message f) l t → z .result .yes ≡ 1 → withBlock j message f ≡ messageLeft
       c-restore-only f long bytes λs b z bt said =
           left-only A s message l j t none f long bytes (yes-means A s (withBlock j message f) l t (ap (λ (r : Answer). r .yes) (sym (check-at λs b z bt)) ∙ said) .1)
           ∙ sym left-is
@@ -109,7 +110,7 @@ module _ (κs : Lfts 3) (a : Dens κs restore-k.ps) (x : Restoring κs a) where
 -- ---- two calls
 
 module _ (κs : Lfts 3) (a : Dens κs restore-k.ps) (x : Restoring κs a) (λs : Lfts 3) (b : Dens λs restore-k.ps) (y : Restoring λs b)
-    {A : Agreement} {s u v : List ℕ} {l j : ℕ} {t : List ℕ} (at : RestoreAt κs a A s u l j t) (bt : RestoreAt λs b A s v l j t) (h : Outside j u v) where
+    {A : Agreement} {s u v : List ℕ} {l j : ℕ} {t : List ℕ} (at : RestoreAt κs (asRestore κs a) A s u l j t) (bt : RestoreAt λs (asRestore λs b) A s v l j t) (h : Outside j u v) where
   pub c-restore-whatever : (x .result ≡ y .result) × (x .result ≡ 0 → messageLeft κs a x ≡ messageLeft λs b y)
   c-restore-whatever = (
     c-restore-number κs a x at ∙ same-fault A s u v l j t h ∙ sym (c-restore-number λs b y bt),
@@ -117,7 +118,7 @@ module _ (κs : Lfts 3) (a : Dens κs restore-k.ps) (x : Restoring κs a) (λs :
   )
 
 module _ (λs : Lfts 3) (b : Dens λs check-k.ps) (z : Checking λs b) (κs : Lfts 3) (a : Dens κs restore-k.ps) (x : Restoring κs a)
-    {A : Agreement} {s m : List ℕ} {l j : ℕ} {t : List ℕ} (f : List ℕ) (bt : CheckAt λs b A s m l t) (at : RestoreAt κs a A s (withBlock j m f) l j t) where
+    {A : Agreement} {s m : List ℕ} {l j : ℕ} {t : List ℕ} (f : List ℕ) (bt : CheckAt λs (asCheck λs b) A s m l t) (at : RestoreAt κs (asRestore κs a) A s (withBlock j m f) l j t) where
   pub c-restore-back : z .result .yes ≡ 1 → A .m ≡ n → suc j * n ≤ l → length f ≡ size → ((i : ℕ) → getD m i 0 < 256) → (x .result ≡ 0) × (messageLeft κs a x ≡ m)
   c-restore-back said whole fits hf bytes =
       let was = yes-means A s m l t (ap (λ (r : Answer). r .yes) (sym (check-at λs b z bt)) ∙ said) in (

@@ -5,7 +5,7 @@
 -- leaves the room (`piece-back`, `finish-back`, `make-untouched`); an accepted start or piece leaves the session open (`start-open`,
 -- `piece-open`).
 -- Assumes nothing.
-use mathlib.Core.Path.{_≡_, refl, sym, ap, ap₂, _∙_}
+use mathlib.Core.Path.{_≡_, refl, sym, ap, _∙_}
 use mathlib.Core.Bool.{Bool, true, false}
 use mathlib.Core.List.{List, [], _∷_, _++_}
 use Prim.Native.Nat.{ℕ}
@@ -21,13 +21,14 @@ use Rattle.bits.specs.Str.{Bits}
 use Rattle.mac.specs.Tag.{bitsOf, bytesFor}
 use Rattle.mac.specs.Session.{joined}
 use Rattle.mac.proofs.OneBlock.{Apart}
-use Rattle.keys.specs.Given.{keysOf}
+use Rattle.settings.specs.InUse.{unpacked, inUse}
 use Rattle.settings.specs.Answers.{numberOf, reportedCalls}
 use Rattle.settings.specs.declared.Agreement.{Agreement}
 use Rattle.settings.specs.declared.Outcome as settings
 use Rattle.settings.proofs.Numbers.{Unrefused}
 use Rattle.tag.specs.OneCall.{makeOf}
 use Rattle.tag.proofs.Numbers.{tagged, listed, madeOf, made-of, refused-of}
+use Rattle.tag.proofs.SameUse.{SameUse, tagged-same}
 use Rattle.tag.proofs.Full.{n, size, full-differ}
 use Rattle.session.specs.declared.Session as session
 use Rattle.session.specs.declared.Step as session-step
@@ -38,7 +39,7 @@ use Rattle.session.proofs.StaysOpen.{start-opens, piece-opens}
 use Rattle.slipseal.specs.declared.Answer.{Answer}
 use Rattle.slipseal.specs.declared.Session.{Session}
 use Rattle.slipseal.specs.declared.Step.{Step}
-use Rattle.slipseal.specs.Border.{yesOf, toldOf, toldMake, inward, outward, handedOut, handedBack, finishedBack}
+use Rattle.slipseal.specs.Border.{agreedOf, yesOf, toldOf, toldMake, inward, outward, handedOut, handedBack, finishedBack}
 use Rattle.slipseal.proofs.Crossing.{out-and-in}
 use Rattle.slipseal.proofs.slipseal_make.Kinds as make-k
 use Rattle.slipseal.proofs.slipseal_make.Reads as make
@@ -103,7 +104,7 @@ module _ (came : Session) (t : session-step.Step) where
 
 module _ (κs : Lfts 3) (a : Dens κs make-k.ps) (x : Making κs a) where
   abbrev one : settings.Outcome × List ℕ
-  one = makeOf (a .0) (a .1 .0 .now) (a .1 .1 .0 .now) (a .1 .1 .1 .0) (a .1 .1 .1 .1 .0 .now)
+  one = makeOf (agreedOf (a .0)) (a .1 .0 .now) (a .1 .1 .0 .now) (a .1 .1 .1 .0) (a .1 .1 .1 .1 .0 .now)
 
   -- the room at the end
   abbrev pub roomLeft : List ℕ
@@ -121,22 +122,23 @@ module _ (κs : Lfts 3) (a : Dens κs make-k.ps) (x : Making κs a) where
   make-left = ap (λ (r : Answer × List ℕ). r .1) (x .ensures)
 
   pub make-untouched : ¬ (x .result .number ≡ 0) → roomLeft ≡ a .1 .1 .1 .1 .0 .now
-  make-untouched u = make-left ∙ ap (λ (r : settings.Outcome × List ℕ). r .1) (refused-of (a .0) (a .1 .0 .now) (a .1 .1 .0 .now) (a .1 .1 .1 .0) (a .1 .1 .1 .1 .0 .now) (λ z. u (make-answer ∙ z)))
+  make-untouched u = make-left ∙ ap (λ (r : settings.Outcome × List ℕ). r .1) (refused-of (agreedOf (a .0)) (a .1 .0 .now) (a .1 .1 .0 .now) (a .1 .1 .1 .0) (a .1 .1 .1 .1 .0 .now) (λ z. u (make-answer ∙ z)))
 
-  make-made : x .result .number ≡ 0 → roomLeft ≡ tagged (a .0) (keysOf (a .1 .0 .now)) bitsGiven ++ drop (bytesFor (a .0 .m)) (a .1 .1 .1 .1 .0 .now)
-  make-made u = make-left ∙ ap (λ (r : settings.Outcome × List ℕ). r .1) (made-of (a .0) (a .1 .0 .now) (a .1 .1 .0 .now) (a .1 .1 .1 .0) (a .1 .1 .1 .1 .0 .now) (sym make-answer ∙ u))
+  make-made : x .result .number ≡ 0 → roomLeft ≡ tagged (agreedOf (a .0)) (inUse (agreedOf (a .0)) (a .1 .0 .now)) bitsGiven ++ drop (bytesFor (agreedOf (a .0) .m)) (a .1 .1 .1 .1 .0 .now)
+  make-made u = make-left ∙ ap (λ (r : settings.Outcome × List ℕ). r .1) (made-of (agreedOf (a .0)) (a .1 .0 .now) (a .1 .1 .0 .now) (a .1 .1 .1 .0) (a .1 .1 .1 .1 .0 .now) (sym make-answer ∙ u))
 
 module _ (κs : Lfts 3) (a : Dens κs make-k.ps) (x : Making κs a) (λs : Lfts 3) (b : Dens λs make-k.ps) (y : Making λs b) where
-  pub c-make-differs : a .0 ≡ b .0 → a .0 .m ≡ n → a .1 .0 .now ≡ b .1 .0 .now → x .result .number ≡ 0 → y .result .number ≡ 0
+  pub c-make-differs : SameUse (agreedOf (a .0)) (a .1 .0 .now) (agreedOf (b .0)) (b .1 .0 .now) → a .0 .m ≡ n → x .result .number ≡ 0 → y .result .number ≡ 0
       → (j : ℕ) → Apart n j (bitsGiven κs a x) (bitsGiven λs b y) → ¬ (bitsGiven κs a x ≡ bitsGiven λs b y) → ¬ (take size (roomLeft κs a x) ≡ take size (roomLeft λs b y))
-  c-make-differs same full keys ux uy j h ne e =
-      full-differ (a .0) full (keysOf (a .1 .0 .now)) j _ _ h ne _ _
+  unfolding agreedOf
+  c-make-differs same full ux uy j h ne e =
+      full-differ (agreedOf (a .0)) full (inUse (agreedOf (a .0)) (a .1 .0 .now)) j _ _ h ne _ _
       (ap (take size) (sym (make-made κs a x ux)) ∙ e
-      ∙ ap (take size) (make-made λs b y uy ∙ ap₂ (λ (A : Agreement) (s : List ℕ). tagged A (keysOf s) (bitsGiven λs b y) ++ drop (bytesFor (A .m)) (b .1 .1 .1 .1 .0 .now)) (sym same) (sym keys)))
+      ∙ ap (take size) (make-made λs b y uy ∙ ap (λ (w : List ℕ). w ++ drop (bytesFor (b .0 .m)) (b .1 .1 .1 .1 .0 .now)) (sym (tagged-same (agreedOf (a .0)) (agreedOf (b .0)) (a .1 .0 .now) (b .1 .0 .now) same (bitsGiven λs b y)))))
 
 module _ (κs : Lfts 1) (a : Dens κs start-k.ps) (x : Started κs a) where
   abbrev begun : session-step.Step
-  begun = startOf (a .0) (a .1 .0 .now) (a .1 .1 .0)
+  begun = startOf (agreedOf (a .0)) (a .1 .0 .now) (a .1 .1 .0)
 
   start-number : x .result .answer .number ≡ numberOf (begun .answer)
   unfolding handedOut toldOf
@@ -148,7 +150,7 @@ module _ (κs : Lfts 1) (a : Dens κs start-k.ps) (x : Started κs a) where
   start-in = ap (λ (r : Step). inward (r .session)) (x .ensures) ∙ out-and-in (begun .session)
 
   pub start-open : x .result .answer .number ≡ 0 → Running (inward (x .result .session))
-  start-open u = let e = start-in in rw e (start-opens (a .0) (a .1 .0 .now) (a .1 .1 .0) (sym start-number ∙ u))
+  start-open u = let e = start-in in rw e (start-opens (agreedOf (a .0)) (a .1 .0 .now) (a .1 .1 .0) (sym start-number ∙ u))
 
 module _ (κs : Lfts 1) (a : Dens κs piece-k.ps) (x : Pieced κs a) where
   abbrev fed : session-step.Step
@@ -232,7 +234,7 @@ pub record Ran : Type 0 where
 
 module _ (r : Ran) where
   abbrev pub agreed : Agreement
-  agreed = r .given .0
+  agreed = agreedOf (r .given .0)
 
   abbrev pub keyed : List ℕ
   keyed = r .given .1 .0 .now
@@ -246,8 +248,8 @@ module _ (r : Ran) where
   -- number 0, yes, the calls of the definition's list; the struct closed and zero; the tag's bytes, and the rest of the room
   abbrev pub Ended : Step × List ℕ
   Ended = (
-    record { answer = record { number = 0; yes = 1; calls = listed agreed (keysOf keyed) told }; session = outward cleared },
-    tagged agreed (keysOf keyed) told ++ drop (bytesFor (agreed .m)) (r .came .1 .0 .now),
+    record { answer = record { number = 0; yes = 1; calls = listed agreed (unpacked agreed keyed) told }; session = outward cleared },
+    tagged agreed (inUse agreed keyed) told ++ drop (bytesFor (agreed .m)) (r .came .1 .0 .now),
   )
 
   pub c-joined : (r .last .result, left) ≡ Ended
@@ -267,10 +269,10 @@ module _ (r : Ran) where
 -- ---- demand 3 over two runs
 
 module _ (r t : Ran) where
-  pub c-runs-differ : agreed r ≡ agreed t → agreed r .m ≡ n → keyed r ≡ keyed t → (j : ℕ) → Apart n j (told r) (told t) → ¬ (told r ≡ told t)
+  pub c-runs-differ : SameUse (agreed r) (keyed r) (agreed t) (keyed t) → agreed r .m ≡ n → (j : ℕ) → Apart n j (told r) (told t) → ¬ (told r ≡ told t)
       → ¬ (take size (left r) ≡ take size (left t))
-  c-runs-differ same full keys j h ne e =
-      full-differ (agreed r) full (keysOf (keyed r)) j (told r) (told t) h ne _ _
+  c-runs-differ same full j h ne e =
+      full-differ (agreed r) full (inUse (agreed r) (keyed r)) j (told r) (told t) h ne _ _
       (sym (ap (λ (w : Step × List ℕ). take size (w .1)) (c-joined r)) ∙ e
       ∙ ap (λ (w : Step × List ℕ). take size (w .1)) (c-joined t)
-      ∙ ap₂ (λ (A : Agreement) (s : List ℕ). take size (tagged A (keysOf s) (told t) ++ drop (bytesFor (A .m)) (t .came .1 .0 .now))) (sym same) (sym keys))
+      ∙ ap (λ (w : List ℕ). take size (w ++ drop (bytesFor (agreed t .m)) (t .came .1 .0 .now))) (sym (tagged-same (agreed r) (agreed t) (keyed r) (keyed t) same (told t))))

@@ -1,5 +1,6 @@
 -- What crosses the border to C: document 01's numbers for each answer, what a slip says, and a session as numbers and arrays.
 -- Assumes nothing.
+use mathlib.Core.Bool.{Bool, not}
 use mathlib.Core.List.{List}
 use Prim.Native.Nat.{ℕ}
 use lib.Dec.{eqb, ltb}
@@ -7,7 +8,7 @@ use Rattle.bits.specs.Choice.{pick}
 use Rattle.settings.specs.Answers.{numberOf, reportedCalls}
 use Rattle.settings.specs.declared.Outcome as settings
 use Rattle.settings.specs.declared.Outcome.the-variants.{Accepted, Made, Yes, No, Refused}
-use Rattle.settings.specs.declared.Agreement.{Agreement}
+use Rattle.settings.specs.declared.Agreement as settings-agreement
 use Rattle.tag.specs.declared.Restored.{Restored}
 use Rattle.tag.specs.Restore.{restoredNumber}
 use Rattle.chain.specs.declared.Hold.{Hold}
@@ -18,10 +19,24 @@ use Rattle.session.specs.declared.Phase.the-variants.{Closed, Edge, Part}
 use Rattle.session.specs.declared.Purpose.{Purpose}
 use Rattle.session.specs.declared.Purpose.the-variants.{Making, Checking}
 use Rattle.slip.specs.declared.Slip as slip
+use Rattle.slipseal.specs.declared.Agreement.{Agreement}
 use Rattle.slipseal.specs.declared.Answer.{Answer}
 use Rattle.slipseal.specs.declared.Session.{Session}
 use Rattle.slipseal.specs.declared.Step.{Step}
 use Rattle.slipseal.specs.declared.Slip.{Slip}
+
+-- ---- what was agreed
+
+-- master: 0 for no, any other number for yes
+unfoldable pub agreedOf : Agreement → settings-agreement.Agreement
+agreedOf A = record { algorithm = A .algorithm; padding = A .padding; m = A .m; master = not (eqb (A .master) 0) }
+
+-- 0 or 1
+unfoldable pub masterNumber : Bool → ℕ
+masterNumber master = pick master 1 0
+
+unfoldable pub agreedBack : settings-agreement.Agreement → Agreement
+agreedBack A = record { algorithm = A .algorithm; padding = A .padding; m = A .m; master = masterNumber (A .master) }
 
 -- ---- answers
 
@@ -58,11 +73,13 @@ toldSlip r = record {
 
 -- ---- in and out
 
--- 0 closed, 1 at a byte edge, 2 after a part byte; any other number, a part count at a byte edge, and a purpose other than 0 and 1
--- are closed
-unfoldable pub phaseFrom : ℕ → ℕ → ℕ → Phase
-phaseFrom phase part purpose =
-    pick (ltb 1 purpose) Closed (pick (eqb phase 2) (Part part) (pick (eqb phase 1) (pick (eqb part 0) Edge Closed) Closed))
+-- 0 closed, 1 at a byte edge, 2 after a part byte; any other number, a part count at a byte edge, and a purpose or a master other than
+-- 0 and 1 are closed
+unfoldable pub phaseFrom : ℕ → ℕ → ℕ → ℕ → Phase
+phaseFrom phase part purpose master =
+    pick (ltb 1 purpose) Closed
+    (pick (ltb 1 master) Closed
+    (pick (eqb phase 2) (Part part) (pick (eqb phase 1) (pick (eqb part 0) Edge Closed) Closed)))
 
 -- 0 making, 1 checking
 unfoldable pub purposeFrom : ℕ → Purpose
@@ -84,9 +101,9 @@ partNumber (Part n) = n
 
 unfoldable pub inward : Session → session.Session
 inward r = record {
-  phase = phaseFrom (r .phase) (r .part) (r .purpose);
+  phase = phaseFrom (r .phase) (r .part) (r .purpose) (r .agreement .master);
   purpose = purposeFrom (r .purpose);
-  agreement = r .agreement;
+  agreement = agreedOf (r .agreement);
   declared = r .declared;
   total = r .total;
   keys = r .keys;
@@ -99,7 +116,7 @@ outward s = record {
   phase = phaseNumber (s .phase);
   part = partNumber (s .phase);
   purpose = purposeNumber (s .purpose);
-  agreement = s .agreement;
+  agreement = agreedBack (s .agreement);
   declared = s .declared;
   total = s .total;
   keys = s .keys;

@@ -1,5 +1,5 @@
-// The library for C and for whatever calls C: each function hands its arguments on and turns the answer into numbers. A session
-// crosses as numbers and arrays; any content of it is answered, and a refusal hands back the very struct that came.
+// The library for C and for whatever calls C: each function hands its arguments on and turns the answer into numbers. What was agreed
+// and a session cross as numbers and arrays; any content of them is answered, and a refusal hands back the very struct that came.
 ghost use mathlib.Core.Path.{_≡_};
 ghost use Rattle.tag.specs.OneCall.{makeOf, checkOf};
 ghost use Rattle.tag.specs.Restore.{restoreOf, restoredNumber};
@@ -8,7 +8,16 @@ ghost use Rattle.slip.specs.Slip.{readOf};
 ghost use Rattle.slip.specs.Gathering.{held, addOf};
 ghost use Rattle.slip.specs.Printed.{writeOf};
 ghost use Rattle.writing.specs.Writing.{said};
-ghost use Rattle.slipseal.specs.Border.{toldOf, toldMake, toldRestored, toldSlip, phaseFrom, phaseNumber, partNumber, purposeFrom, purposeNumber, inward, outward, handedOut, handedBack, finishedBack};
+ghost use Rattle.slipseal.specs.Border.{agreedOf, masterNumber, agreedBack, toldOf, toldMake, toldRestored, toldSlip, phaseFrom, phaseNumber, partNumber, purposeFrom, purposeNumber, inward, outward, handedOut, handedBack, finishedBack};
+
+// master: 0 for no, any other number for yes; in a session 0 or 1.
+#[repr(C)]
+pub struct Agreement {
+    pub algorithm: usize,
+    pub padding: usize,
+    pub m: usize,
+    pub master: usize,
+}
 
 // number: 0, or the refusal's. yes: 1 for a made tag, a good finish and a checked yes, else 0.
 #[repr(C)]
@@ -24,7 +33,7 @@ pub struct Session {
     pub phase: usize,
     pub part: usize,
     pub purpose: usize,
-    pub agreement: settings::Agreement,
+    pub agreement: Agreement,
     pub declared: usize,
     pub total: usize,
     pub keys: [u8; 32],
@@ -50,6 +59,39 @@ pub struct Slip {
 pub struct Step {
     pub answer: Answer,
     pub session: Session,
+}
+
+// ---- what was agreed
+
+fn agreed(came: Agreement) -> settings::Agreement
+    ensures { λ r. ⌜ r ≡ agreedOf came ⌝ }
+{
+    settings::Agreement {
+        algorithm: came.algorithm,
+        padding: came.padding,
+        m: came.m,
+        master: came.master != 0,
+    }
+}
+
+fn master_number(master: bool) -> usize
+    ensures { λ r. ⌜ r ≡ masterNumber master ⌝ }
+{
+    if master {
+        return 1;
+    }
+    0
+}
+
+fn agreed_back(agreement: settings::Agreement) -> Agreement
+    ensures { λ r. ⌜ r ≡ agreedBack agreement ⌝ }
+{
+    Agreement {
+        algorithm: agreement.algorithm,
+        padding: agreement.padding,
+        m: agreement.m,
+        master: master_number(agreement.master),
+    }
 }
 
 // ---- answers
@@ -88,28 +130,28 @@ fn told(answer: settings::Outcome) -> Answer
 
 #[no_mangle]
 pub extern "C" fn slipseal_make(
-    agreement: settings::Agreement,
+    agreement: Agreement,
     keys: &[u8],
     message: &[u8],
     bits: usize,
     room: &mut [u8],
 ) -> Answer
-    ensures { λ r. ⌜ (r, now (room .exit)) ≡ toldMake (makeOf agreement (now (keys .entry)) (now (message .entry)) bits (now (room .entry))) ⌝ }
+    ensures { λ r. ⌜ (r, now (room .exit)) ≡ toldMake (makeOf (agreedOf agreement) (now (keys .entry)) (now (message .entry)) bits (now (room .entry))) ⌝ }
 {
-    told(tag::make(agreement, keys, message, bits, room))
+    told(tag::make(agreed(agreement), keys, message, bits, room))
 }
 
 #[no_mangle]
 pub extern "C" fn slipseal_check(
-    agreement: settings::Agreement,
+    agreement: Agreement,
     keys: &[u8],
     message: &[u8],
     bits: usize,
     offered: &[u8],
 ) -> Answer
-    ensures { λ r. ⌜ r ≡ toldOf (checkOf agreement (now (keys .entry)) (now (message .entry)) bits (now (offered .entry))) ⌝ }
+    ensures { λ r. ⌜ r ≡ toldOf (checkOf (agreedOf agreement) (now (keys .entry)) (now (message .entry)) bits (now (offered .entry))) ⌝ }
 {
-    told(tag::check(agreement, keys, message, bits, offered))
+    told(tag::check(agreed(agreement), keys, message, bits, offered))
 }
 
 // 0, or the refusal's number.
@@ -124,25 +166,28 @@ fn restored_number(answer: tag::Restored) -> usize
 
 #[no_mangle]
 pub extern "C" fn slipseal_restore(
-    agreement: settings::Agreement,
+    agreement: Agreement,
     keys: &[u8],
     message: &mut [u8],
     bits: usize,
     block: usize,
     offered: &[u8],
 ) -> usize
-    ensures { λ r. ⌜ (r, now (message .exit)) ≡ toldRestored (restoreOf agreement (now (keys .entry)) (now (message .entry)) bits block (now (offered .entry))) ⌝ }
+    ensures { λ r. ⌜ (r, now (message .exit)) ≡ toldRestored (restoreOf (agreedOf agreement) (now (keys .entry)) (now (message .entry)) bits block (now (offered .entry))) ⌝ }
 {
-    restored_number(tag::restore(agreement, keys, message, bits, block, offered))
+    restored_number(tag::restore(agreed(agreement), keys, message, bits, block, offered))
 }
 
 // ---- a session in and out
 
-// A purpose other than 0 and 1 closes the session, whatever its phase.
-fn phase_from(phase: usize, part: usize, purpose: usize) -> session::Phase
-    ensures { λ r. ⌜ r ≡ phaseFrom phase part purpose ⌝ }
+// A purpose or a master other than 0 and 1 closes the session, whatever its phase.
+fn phase_from(phase: usize, part: usize, purpose: usize, master: usize) -> session::Phase
+    ensures { λ r. ⌜ r ≡ phaseFrom phase part purpose master ⌝ }
 {
     if 1 < purpose {
+        return session::Phase::Closed;
+    }
+    if 1 < master {
         return session::Phase::Closed;
     }
     if phase == 2 {
@@ -198,9 +243,10 @@ fn purpose_number(purpose: session::Purpose) -> usize
 fn session_from(came: Session) -> session::Session
     ensures { λ s. ⌜ s ≡ inward came ⌝ }
 {
-    let phase = phase_from(came.phase, came.part, came.purpose);
+    let named = came.agreement;
+    let phase = phase_from(came.phase, came.part, came.purpose, named.master);
     let purpose = purpose_from(came.purpose);
-    let agreement = came.agreement;
+    let agreement = agreed(named);
     let keys = came.keys;
     let value = came.chain;
     let held = came.held;
@@ -223,7 +269,8 @@ fn session_out(s: session::Session) -> Session
 {
     let phase = s.phase;
     let purpose = s.purpose;
-    let agreement = s.agreement;
+    let kept = s.agreement;
+    let agreement = agreed_back(kept);
     let keys = s.keys;
     let hold = s.hold;
     let chain = hold.value;
@@ -274,26 +321,22 @@ fn handed_back(came: Session, step: session::Step) -> Step
 }
 
 #[no_mangle]
-pub extern "C" fn slipseal_start(
-    agreement: settings::Agreement,
-    keys: &[u8],
-    declared: usize,
-) -> Step
-    ensures { λ r. ⌜ r ≡ handedOut (startOf agreement (now (keys .entry)) declared) ⌝ }
+pub extern "C" fn slipseal_start(agreement: Agreement, keys: &[u8], declared: usize) -> Step
+    ensures { λ r. ⌜ r ≡ handedOut (startOf (agreedOf agreement) (now (keys .entry)) declared) ⌝ }
 {
-    handed_out(session::start(agreement, keys, declared))
+    handed_out(session::start(agreed(agreement), keys, declared))
 }
 
 #[no_mangle]
 pub extern "C" fn slipseal_start_check(
-    agreement: settings::Agreement,
+    agreement: Agreement,
     keys: &[u8],
     declared: usize,
     tag: &[u8],
 ) -> Step
-    ensures { λ r. ⌜ r ≡ handedOut (startCheckOf agreement (now (keys .entry)) declared (now (tag .entry))) ⌝ }
+    ensures { λ r. ⌜ r ≡ handedOut (startCheckOf (agreedOf agreement) (now (keys .entry)) declared (now (tag .entry))) ⌝ }
 {
-    handed_out(session::start_check(agreement, keys, declared, tag))
+    handed_out(session::start_check(agreed(agreement), keys, declared, tag))
 }
 
 #[no_mangle]
@@ -339,10 +382,10 @@ fn told_slip(read: slip::Slip) -> Slip
 }
 
 #[no_mangle]
-pub extern "C" fn slipseal_read(agreement: settings::Agreement, keys: &[u8], slip: &[u8]) -> Slip
-    ensures { λ r. ⌜ r ≡ toldSlip (readOf agreement (now (keys .entry)) (now (slip .entry))) ⌝ }
+pub extern "C" fn slipseal_read(agreement: Agreement, keys: &[u8], slip: &[u8]) -> Slip
+    ensures { λ r. ⌜ r ≡ toldSlip (readOf (agreedOf agreement) (now (keys .entry)) (now (slip .entry))) ⌝ }
 {
-    told_slip(slip::read(agreement, keys, slip))
+    told_slip(slip::read(agreed(agreement), keys, slip))
 }
 
 #[no_mangle]
@@ -354,11 +397,11 @@ pub extern "C" fn slipseal_gather(came: slip::Gathered, bytes: &[u8]) -> slip::G
 
 #[no_mangle]
 pub extern "C" fn slipseal_read_gathered(
-    agreement: settings::Agreement,
+    agreement: Agreement,
     keys: &[u8],
     came: slip::Gathered,
 ) -> Slip
-    ensures { λ r. ⌜ r ≡ toldSlip (readOf agreement (now (keys .entry)) (held came)) ⌝ }
+    ensures { λ r. ⌜ r ≡ toldSlip (readOf (agreedOf agreement) (now (keys .entry)) (held came)) ⌝ }
 {
     let bytes = came.bytes;
     slipseal_read(agreement, keys, slip::held(&bytes, came.count))
@@ -366,7 +409,7 @@ pub extern "C" fn slipseal_read_gathered(
 
 #[no_mangle]
 pub extern "C" fn slipseal_write(
-    agreement: settings::Agreement,
+    agreement: Agreement,
     keys: &[u8],
     year: usize,
     month: usize,
@@ -375,7 +418,7 @@ pub extern "C" fn slipseal_write(
     amount: usize,
     room: &mut [u8],
 ) -> slip::Written
-    ensures { λ r. ⌜ (r, now (room .exit)) ≡ writeOf agreement (now (keys .entry)) (said year month day (now (lot .entry)) amount) (now (room .entry)) ⌝ }
+    ensures { λ r. ⌜ (r, now (room .exit)) ≡ writeOf (agreedOf agreement) (now (keys .entry)) (said year month day (now (lot .entry)) amount) (now (room .entry)) ⌝ }
 {
-    slip::write(agreement, keys, year, month, day, lot, amount, room)
+    slip::write(agreed(agreement), keys, year, month, day, lot, amount, room)
 }

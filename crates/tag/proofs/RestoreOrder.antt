@@ -13,8 +13,8 @@ use Rattle.bits.specs.Choice.{pick, Fault, _given_, firstOf}
 use Rattle.cipher.specs.Cipher.{Cipher}
 use Rattle.cipher.proofs.Laws.{sm4-width}
 use Rattle.mac.specs.Algorithm.{algorithmAt}
-use Rattle.keys.specs.Given.{keysOf}
 use Rattle.keys.specs.Faults.{keyBytesWrong, keysSame, keysWeak}
+use Rattle.settings.specs.InUse.{inUse}
 use Rattle.settings.specs.Faults.{algorithmWrong, paddingWrong, sizeWrong, settingsFaults}
 use Rattle.settings.specs.Answers.{settingsOf}
 use Rattle.settings.specs.declared.Agreement.{Agreement}
@@ -34,9 +34,9 @@ module _ (A : Agreement) (s : List ℕ) (c l j t : ℕ) where
       1 given one ∷
       2 given two ∷
       3 given three ∷
-      4 given keyBytesWrong (A .algorithm) (length s) ∷
-      5 given keysSame (A .algorithm) (keysOf s) ∷
-      6 given keysWeak (A .algorithm) (keysOf s) ∷
+      4 given keyBytesWrong (A .master) (A .algorithm) (length s) ∷
+      5 given keysSame (A .algorithm) (inUse A s) ∷
+      6 given keysWeak (A .algorithm) (inUse A s) ∷
       7 given lengthWrong c l ∷
       8 given tooManyBits l ∷
       9 given tooFewBlocks (settingsOf A) l ∷
@@ -59,11 +59,11 @@ module _ (A : Agreement) (s : List ℕ) (c l j t : ℕ) where
 
   pub order-full : A .m ≡ n → restoreFaults A s c l j t ≡ thenBlock A
   unfolding restoreFaults fullOnly pick
-  order-full e = ap (λ (b : Bool). thenBlock (pick b A (record { algorithm = A .algorithm; padding = A .padding; m = 0 }))) (eq-eqb (A .m) n e)
+  order-full e = ap (λ (b : Bool). thenBlock (pick b A (record { algorithm = A .algorithm; padding = A .padding; m = 0; master = A .master }))) (eq-eqb (A .m) n e)
 
   pub order-not-full : ¬ (A .m ≡ n) → firstOf (restoreFaults A s c l j t) ≡ firstOf (1 given algorithmWrong (A .algorithm) ∷ 2 given paddingWrong (A .algorithm) (A .padding) ∷ 3 given true ∷ [])
   unfolding restoreFaults fullOnly oneCallFaults settingsFaults sizeWrong firstOf pick
-  order-not-full h = ap (λ (b : Bool). firstOf (thenBlock (pick b A (record { algorithm = A .algorithm; padding = A .padding; m = 0 })))) (ne-eqb (A .m) n h)
+  order-not-full h = ap (λ (b : Bool). firstOf (thenBlock (pick b A (record { algorithm = A .algorithm; padding = A .padding; m = 0; master = A .master })))) (ne-eqb (A .m) n h)
 
   order-whole : A .m ≡ n → firstOf (restoreFaults A s c l j t) ≡ firstOf (inOrder one two three)
   unfolding oneCallFaults settingsFaults messageFaults

@@ -26,7 +26,7 @@ use Rattle.mac.specs.Tag.{bitsOf, bytesFor, tagBytes}
 use Rattle.mac.proofs.OneBlock.{refilled, full, tag-long}
 use Rattle.mac.proofs.TagBytes.{take-fits, length-tagBytes, tagBytes-fit, tagBytes-bytesBits, length-bitsOf}
 use Rattle.mac.proofs.Lost.{lost-long, lost-fits, lost-only, lost-same}
-use Rattle.keys.specs.Given.{keysOf}
+use Rattle.settings.specs.InUse.{unpacked, inUse}
 use Rattle.settings.specs.Faults.{settingsFaults, settingsRefusal}
 use Rattle.settings.specs.Answers.{settingsOf}
 use Rattle.settings.specs.declared.Agreement.{Agreement}
@@ -56,7 +56,7 @@ module _ (A : Agreement) (s message : List ℕ) (l j : ℕ) (t : List ℕ) where
   unfolding restoreOf restoredBy pick
   result-of = go (eqb restoreFault 0)
     where
-      go : (b : Bool) → pick {A = Restored × List ℕ} b (Filled, withBlock j message (tagBytes (lostAt (settingsOf A) (keysOf s) message l j t))) (Refused restoreFault, message) .0 ≡ pick b Filled (Refused restoreFault)
+      go : (b : Bool) → pick {A = Restored × List ℕ} b (Filled, withBlock j message (tagBytes (lostAt (settingsOf A) (inUse A s) message l j t))) (Refused restoreFault, message) .0 ≡ pick b Filled (Refused restoreFault)
       go true = refl
       go false = refl
 
@@ -72,7 +72,7 @@ module _ (A : Agreement) (s message : List ℕ) (l j : ℕ) (t : List ℕ) where
   unfolding restoreOf restoredBy pick
   refused-of h = rw (ne-eqb restoreFault 0 h)
 
-  pub filled-of : restoreFault ≡ 0 → restoreOf A s message l j t ≡ (Filled, withBlock j message (tagBytes (lostAt (settingsOf A) (keysOf s) message l j t)))
+  pub filled-of : restoreFault ≡ 0 → restoreOf A s message l j t ≡ (Filled, withBlock j message (tagBytes (lostAt (settingsOf A) (inUse A s) message l j t)))
   unfolding restoreOf restoredBy pick
   filled-of e = rw (eq-eqb restoreFault 0 e)
 
@@ -87,7 +87,7 @@ module _ (A : Agreement) (s message : List ℕ) (l j : ℕ) (t : List ℕ) where
 
   sound-settings : restoreFault ≡ 0 → settingsNo (fullOnly A) s (length message) l true ≡ 0
   unfolding oneCallFaults settingsRefusal
-  sound-settings e = first-front (settingsFaults (fullOnly A) (length s) (keysOf s)) _ (clear-checking e)
+  sound-settings e = first-front (settingsFaults (fullOnly A) (length s) (inUse (fullOnly A) s)) _ (clear-checking e)
 
   pub record Accepted : Type 0 where
     pub whole : A .m ≡ n
@@ -103,7 +103,7 @@ module _ (A : Agreement) (s message : List ℕ) (l j : ℕ) (t : List ℕ) where
   }
     where
       both : (A .m ≡ n) × (fullOnly A ≡ A)
-      both = full-is A (sound-size (fullOnly A) (length s) (keysOf s) (sound-settings e) .0)
+      both = full-is A (sound-size (fullOnly A) (length s) (inUse (fullOnly A) s) (sound-settings e) .0)
 
       there : (b : Bool) → _≡_ {A = ℕ} (pick b 41 0) 0 → b ≡ false
       there true h = absurd (omega arith)
@@ -113,7 +113,7 @@ module _ (A : Agreement) (s message : List ℕ) (l j : ℕ) (t : List ℕ) where
 
   module _ (ok : Accepted) where
     abbrev pub filling : List ℕ
-    filling = tagBytes (lostAt (settingsOf A) (keysOf s) message l j t)
+    filling = tagBytes (lostAt (settingsOf A) (inUse A s) message l j t)
 
     facts : Taken (settingsOf A) (length message) l (tagLengthWrong (A .m) (length t))
     facts = taken (settingsOf A) (length message) l _ (accepted-message A s (length message) l _ (ok .checked))
@@ -129,34 +129,34 @@ module _ (A : Agreement) (s message : List ℕ) (l j : ℕ) (t : List ℕ) where
     in-bits : suc j * n ≤ length (bitsOf message l)
     in-bits = omega (arith, ok .fits, length-bitsOf message l holds)
 
-    lost-whole : length (lostAt (settingsOf A) (keysOf s) message l j t) ≡ n
+    lost-whole : length (lostAt (settingsOf A) (inUse A s) message l j t) ≡ n
     unfolding lostAt
-    lost-whole = lost-long (cipherAt 1) (lawful-at 1) (algorithmAt (A .algorithm)) (methodAt (A .padding)) (keysOf s) j (bitsOf message l) in-bits (bytesBits t) t-whole
+    lost-whole = lost-long (cipherAt 1) (lawful-at 1) (algorithmAt (A .algorithm)) (methodAt (A .padding)) (inUse A s) j (bitsOf message l) in-bits (bytesBits t) t-whole
 
     pub filling-long : length filling ≡ size
     filling-long = length-tagBytes _ ∙ ap bytesFor lost-whole
 
     -- the tag of the message with bytes f in the block
     abbrev with : List ℕ → Bits
-    with f = full (cipherAt 1) (algorithmAt (A .algorithm)) (methodAt (A .padding)) (keysOf s) (refilled n j (bitsOf message l) (bytesBits f))
+    with f = full (cipherAt 1) (algorithmAt (A .algorithm)) (methodAt (A .padding)) (inUse A s) (refilled n j (bitsOf message l) (bytesBits f))
 
-    tag-with : (f : List ℕ) → length f ≡ size → tagged A (keysOf s) (bitsOf (withBlock j message f) l) ≡ tagBytes (with f)
-    tag-with f h = ap (tagged A (keysOf s)) (bits-withBlock j l message (ok .fits) holds f h) ∙ tagged-full A (ok .whole) (keysOf s) _
+    tag-with : (f : List ℕ) → length f ≡ size → tagged A (inUse A s) (bitsOf (withBlock j message f) l) ≡ tagBytes (with f)
+    tag-with f h = ap (tagged A (inUse A s)) (bits-withBlock j l message (ok .fits) holds f h) ∙ tagged-full A (ok .whole) (inUse A s) _
 
-    pub fits-tag : ((i : ℕ) → getD t i 0 < 256) → tagged A (keysOf s) (bitsOf (withBlock j message filling) l) ≡ t
+    pub fits-tag : ((i : ℕ) → getD t i 0 < 256) → tagged A (inUse A s) (bitsOf (withBlock j message filling) l) ≡ t
     unfolding lostAt
     fits-tag bytes =
         tag-with filling filling-long
-        ∙ ap (λ (w : Bits). tagBytes (full (cipherAt 1) (algorithmAt (A .algorithm)) (methodAt (A .padding)) (keysOf s) (refilled n j (bitsOf message l) w))) (whole-back _ lost-whole)
-        ∙ ap tagBytes (lost-fits (cipherAt 1) (lawful-at 1) (algorithmAt (A .algorithm)) (methodAt (A .padding)) (keysOf s) j (bitsOf message l) in-bits (bytesBits t) t-whole)
+        ∙ ap (λ (w : Bits). tagBytes (full (cipherAt 1) (algorithmAt (A .algorithm)) (methodAt (A .padding)) (inUse A s) (refilled n j (bitsOf message l) w))) (whole-back _ lost-whole)
+        ∙ ap tagBytes (lost-fits (cipherAt 1) (lawful-at 1) (algorithmAt (A .algorithm)) (methodAt (A .padding)) (inUse A s) j (bitsOf message l) in-bits (bytesBits t) t-whole)
         ∙ tagBytes-bytesBits t bytes
 
-    pub only-filling : (f : List ℕ) → length f ≡ size → ((i : ℕ) → getD f i 0 < 256) → tagged A (keysOf s) (bitsOf (withBlock j message f) l) ≡ t → f ≡ filling
+    pub only-filling : (f : List ℕ) → length f ≡ size → ((i : ℕ) → getD f i 0 < 256) → tagged A (inUse A s) (bitsOf (withBlock j message f) l) ≡ t → f ≡ filling
     unfolding lostAt
     only-filling f h bytes e =
         bytesBits-inj f filling bytes (tagBytes-fit _) (h ∙ sym filling-long)
-        (lost-only (cipherAt 1) (lawful-at 1) (algorithmAt (A .algorithm)) (methodAt (A .padding)) (keysOf s) j (bitsOf message l) in-bits (bytesBits t) (bytesBits f) (omega (arith, length-bytesBits f, whole-bytes))
-        (sym (whole-back (with f) (tag-long (cipherAt 1) (lawful-at 1) (algorithmAt (A .algorithm)) (methodAt (A .padding)) (keysOf s) n _ (omega arith))) ∙ ap bytesBits (sym (tag-with f h) ∙ e))
+        (lost-only (cipherAt 1) (lawful-at 1) (algorithmAt (A .algorithm)) (methodAt (A .padding)) (inUse A s) j (bitsOf message l) in-bits (bytesBits t) (bytesBits f) (omega (arith, length-bytesBits f, whole-bytes))
+        (sym (whole-back (with f) (tag-long (cipherAt 1) (lawful-at 1) (algorithmAt (A .algorithm)) (methodAt (A .padding)) (inUse A s) n _ (omega arith))) ∙ ap bytesBits (sym (tag-with f h) ∙ e))
         ∙ sym (whole-back _ lost-whole))
 
     -- any filling is checked as the message was
@@ -184,15 +184,15 @@ module _ (A : Agreement) (s message : List ℕ) (l j : ℕ) (t : List ℕ) where
           (record { same-length = refl; same-before = refl; same-after = refl })
 
   module _ (none : restoreFault ≡ 0) where
-    pub left-checks : ((i : ℕ) → getD t i 0 < 256) → checkOf A s left l t ≡ Yes (listed A (keysOf s) (bitsOf left l))
+    pub left-checks : ((i : ℕ) → getD t i 0 < 256) → checkOf A s left l t ≡ Yes (listed A (unpacked A s) (bitsOf left l))
     left-checks bytes =
         let ok = accepted none in
         let e = left-filled none in
         says-yes A s left l t
         (ap (λ (m : List ℕ). checkFault A s m l t) e ∙ checks-like ok (filling ok) (filling-long ok))
-        (sym (ap (λ (m : List ℕ). tagged A (keysOf s) (bitsOf m l)) e ∙ fits-tag ok bytes))
+        (sym (ap (λ (m : List ℕ). tagged A (inUse A s) (bitsOf m l)) e ∙ fits-tag ok bytes))
 
-    pub left-only : (f : List ℕ) → length f ≡ size → ((i : ℕ) → getD f i 0 < 256) → t ≡ tagged A (keysOf s) (bitsOf (withBlock j message f) l) → withBlock j message f ≡ left
+    pub left-only : (f : List ℕ) → length f ≡ size → ((i : ℕ) → getD f i 0 < 256) → t ≡ tagged A (inUse A s) (bitsOf (withBlock j message f) l) → withBlock j message f ≡ left
     left-only f long bytes e = ap (withBlock j message) (only-filling (accepted none) f long bytes (sym e)) ∙ sym (left-filled none)
 
 -- ---- what the block held has no influence
@@ -209,7 +209,7 @@ module _ (A : Agreement) (s x y : List ℕ) (l j : ℕ) (t : List ℕ) (h : Outs
   whatever-of e =
       let ok = accepted A s x l j t e in
       filled-of A s x l j t e
-      ∙ (λ i. (Filled, h .same-before i ++ (tagBytes (lost-same (cipherAt 1) (lawful-at 1) (algorithmAt (A .algorithm)) (methodAt (A .padding)) (keysOf s) j (bitsOf x l) (bitsOf y l) (bits-outside j l x y h (holds A s x l j t ok) (ok .fits)) (bytesBits t) i) ++ h .same-after i)))
+      ∙ (λ i. (Filled, h .same-before i ++ (tagBytes (lost-same (cipherAt 1) (lawful-at 1) (algorithmAt (A .algorithm)) (methodAt (A .padding)) (inUse A s) j (bitsOf x l) (bitsOf y l) (bits-outside j l x y h (holds A s x l j t ok) (ok .fits)) (bytesBits t) i) ++ h .same-after i)))
       ∙ sym (filled-of A s y l j t (sym same-fault ∙ e))
 
 -- ---- a block that was lost comes back
@@ -230,10 +230,10 @@ module _ (A : Agreement) (s x : List ℕ) (l j : ℕ) (t f : List ℕ) (whole : 
       same : firstOf (checking A s (withBlock j x f) l j t A) ≡ 0
       same = ap (λ (c : ℕ). firstOf (oneCallFaults A s c l (tagLengthWrong (A .m) (length t)))) (length-withBlock j l x fits x-holds f hf) ∙ checked
 
-  pub back-of : ((i : ℕ) → getD x i 0 < 256) → tagged A (keysOf s) (bitsOf x l) ≡ t → restoreOf A s (withBlock j x f) l j t ≡ (Filled, x)
+  pub back-of : ((i : ℕ) → getD x i 0 < 256) → tagged A (inUse A s) (bitsOf x l) ≡ t → restoreOf A s (withBlock j x f) l j t ≡ (Filled, x)
   back-of bytes e =
       filled-of A s (withBlock j x f) l j t back-accepted
-      ∙ ap (λ (b : List ℕ). (Filled, withBlock j (withBlock j x f) b)) (sym (only-filling A s (withBlock j x f) l j t ok block (own-long j l x fits x-holds) block-bytes (ap (λ (m : List ℕ). tagged A (keysOf s) (bitsOf m l)) again ∙ e)))
+      ∙ ap (λ (b : List ℕ). (Filled, withBlock j (withBlock j x f) b)) (sym (only-filling A s (withBlock j x f) l j t ok block (own-long j l x fits x-holds) block-bytes (ap (λ (m : List ℕ). tagged A (inUse A s) (bitsOf m l)) again ∙ e)))
       ∙ ap (λ (m : List ℕ). (Filled, m)) again
     where
       ok : Accepted A s (withBlock j x f) l j t

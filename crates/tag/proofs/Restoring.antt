@@ -26,7 +26,7 @@ use Rattle.mac.specs.Algorithm.{algorithmAt, Keys}
 use Rattle.mac.specs.Tag.{bitsOf, bytesFor, tagBytes}
 use Rattle.mac.proofs.Lost.{lost-long}
 use Rattle.mac.proofs.TagBytes.{length-bitsOf, tagBytes-block}
-use Rattle.keys.specs.Given.{keysOf}
+use Rattle.settings.specs.InUse.{inUse}
 use Rattle.settings.specs.Faults.{settingsFaults, settingsRefusal}
 use Rattle.settings.specs.Answers.{settingsOf, checkedOf}
 use Rattle.settings.specs.declared.Agreement.{Agreement}
@@ -116,7 +116,7 @@ module _ (S : Settings) (K : Keys) (message : List ℕ) (l j : ℕ) (tag : List 
 
 module _ (A : Agreement) where
   abbrev none : Agreement
-  none = record { algorithm = A .algorithm; padding = A .padding; m = 0 }
+  none = record { algorithm = A .algorithm; padding = A .padding; m = 0; master = A .master }
 
   -- algorithm and padding stay
   same-rows : (b : Bool) → (pick b A none .algorithm ≡ A .algorithm) × (pick b A none .padding ≡ A .padding)
@@ -128,6 +128,15 @@ module _ (A : Agreement) where
   unfolding fullOnly
   full-rows = same-rows (eqb (A .m) n)
 
+  -- and so do the keys in use
+  pub full-keys : (s : List ℕ) → inUse (fullOnly A) s ≡ inUse A s
+  unfolding fullOnly pick
+  full-keys s = go (eqb (A .m) n)
+    where
+      go : (b : Bool) → inUse (pick b A none) s ≡ inUse A s
+      go true = refl
+      go false = refl
+
   -- where some bits are asked for, they are the full tag's, and the agreement is the one that came
   full-asked : (b : Bool) → eqb (A .m) n ≡ b → 0 < pick b A none .m → (A .m ≡ n) × (pick b A none ≡ A)
   unfolding pick
@@ -138,7 +147,7 @@ module _ (A : Agreement) where
   unfolding fullOnly
   full-is h = full-asked (eqb (A .m) n) refl h
 
-module _ (A : Agreement) (s message : List ℕ) (l j : ℕ) (tag : List ℕ) (u : Keys) (eu : u ≡ keysOf s) (c : Checked) (ec : c ≡ checkedOf (fullOnly A) (length s) u) where
+module _ (A : Agreement) (s message : List ℕ) (l j : ℕ) (tag : List ℕ) (u : Keys) (eu : u ≡ inUse (fullOnly A) s) (c : Checked) (ec : c ≡ checkedOf (fullOnly A) (length s) u) where
   abbrev ten : Bool
   ten = tagLengthWrong (fullOnly A .m) (length tag)
 
@@ -164,16 +173,16 @@ module _ (A : Agreement) (s message : List ℕ) (l j : ℕ) (tag : List ℕ) (u 
     unfolding restoreOf restoreUnder restoredBy restoreFaults oneCallFaults settingsRefusal lostAt
     restore-restored x f =
         f ∙ ap₂ (λ (v : Settings) (K : Keys). restoreUnder v K message l j tag) (both .1) eu
-        ∙ ap (λ (k : ℕ). restoredBy k (settingsOf (fullOnly A)) (keysOf s) message l j tag) (sym first)
-        ∙ (λ i. restored (full-rows A .0 i) (full-rows A .1 i))
+        ∙ ap (λ (k : ℕ). restoredBy k (settingsOf (fullOnly A)) (inUse (fullOnly A) s) message l j tag) (sym first)
+        ∙ (λ i. restored (full-rows A .0 i) (full-rows A .1 i) (full-keys A s i))
       where
         rest : List Fault
         rest = messageFaults (settingsOf (fullOnly A)) (length message) l ten ++ (41 given noSuchBlock l j ∷ [])
 
         first : firstOf (restoreFaults A s (length message) l j (length tag)) ≡ firstOf rest
         first =
-            ap firstOf (append-assoc (settingsFaults (fullOnly A) (length s) (keysOf s)) (messageFaults (settingsOf (fullOnly A)) (length message) l ten) (41 given noSuchBlock l j ∷ []))
-            ∙ first-append-clear (settingsFaults (fullOnly A) (length s) (keysOf s)) rest (settings-alone (fullOnly A) (length s) (keysOf s)) (both .0)
+            ap firstOf (append-assoc (settingsFaults (fullOnly A) (length s) (inUse (fullOnly A) s)) (messageFaults (settingsOf (fullOnly A)) (length message) l ten) (41 given noSuchBlock l j ∷ []))
+            ∙ first-append-clear (settingsFaults (fullOnly A) (length s) (inUse (fullOnly A) s)) rest (settings-alone (fullOnly A) (length s) (inUse (fullOnly A) s)) (both .0)
 
-        restored : ℕ → ℕ → Restored × List ℕ
-        restored a p = restoredBy (firstOf (restoreFaults A s (length message) l j (length tag))) (record { algorithm = a; padding = p; m = A .m }) (keysOf s) message l j tag
+        restored : ℕ → ℕ → Keys → Restored × List ℕ
+        restored a p K = restoredBy (firstOf (restoreFaults A s (length message) l j (length tag))) (record { algorithm = a; padding = p; m = A .m }) K message l j tag

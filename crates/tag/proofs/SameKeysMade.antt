@@ -7,6 +7,7 @@ use mathlib.Core.Bool.{Bool, true, false}
 use mathlib.Core.List.{List, _++_}
 use Prim.Native.Nat.{ℕ, _+_}
 use native.Mathlib.Omega.{arith}
+use native.Mathlib.Nat.{zero-add}
 use lib.Dec.{eqb}
 use lib.ListN.{length, drop, length-append}
 use lib.Seq.{take-all, take-at, drop-at}
@@ -22,24 +23,24 @@ use Rattle.cipher.specs.Ciphers.{cipherAt}
 use Rattle.cipher.proofs.Laws.{lawful-at}
 use Rattle.mac.specs.Padding.{Method, methodAt, blockCount}
 use Rattle.mac.specs.declared.Row.{Row}
-use Rattle.mac.specs.Algorithm.{alg1, algorithmAt, row, Keys, keys, steps}
+use Rattle.mac.specs.Algorithm.{alg1, algorithmAt, Keys, keys, steps}
 use Rattle.mac.specs.Tag.{bitsOf, bytesFor, tagOf, mac, tagBytes}
 use Rattle.mac.proofs.SameKeys.{same-keys}
-use Rattle.mac.proofs.TagBytes.{length-bitsOf}
-use Rattle.mac.proofs.Promised.{Promised, promised-at}
-use Rattle.keys.specs.Given.{keysOf}
-use Rattle.keys.specs.Faults.{keyBytes, keyBytesWrong, keysSame, keysWeak}
+use Rattle.mac.specs.Run.{Run}
+use Rattle.mac.specs.Derive.{keysUsed}
+use Rattle.keys.specs.Given.{unpackOf}
+use Rattle.settings.specs.InUse.{inUse}
+use Rattle.keys.specs.Faults.{keyBytes, masterWrong, keyBytesWrong, keysSame, keysWeak}
 use Rattle.settings.specs.Faults.{settingsFaults, algorithmWrong, paddingWrong, sizeWrong}
-use Rattle.settings.specs.Answers.{numberOf, settingsOf}
+use Rattle.settings.specs.Answers.{numberOf}
 use Rattle.settings.specs.declared.Agreement.{Agreement}
 use Rattle.settings.specs.declared.Outcome.{Outcome}
 use Rattle.settings.specs.declared.Outcome.the-variants.{Made}
 use Rattle.settings.proofs.Numbers.{Unrefused}
 use Rattle.message.specs.Faults.{messageFaults, tooFewBlocks}
-use Rattle.message.proofs.Taken.{taken}
 use Rattle.tag.specs.OneCall.{oneCallFaults}
-use Rattle.tag.proofs.Making.{accepted-message}
-use Rattle.tag.proofs.Numbers.{tagged, listed, Making, MakeAt, makeFault, roomLeft, make-untouched, number-at, made-at}
+use Rattle.tag.proofs.Numbers.{tagged, Making, MakeAt, makeFault, roomLeft, make-untouched, number-at, made-at}
+use Rattle.tag.proofs.SameUse.{listed-count}
 use Rattle.tag.proofs.make.Kinds as make-k
 
 -- algorithm 1 looks at K alone
@@ -55,33 +56,39 @@ module _ (k : List ℕ) (sixteen : length k ≡ 16) where
   front-k rest = front-full (k ++ rest) (omega (arith, length-append k rest)) ∙ take-at k rest 16 sixteen
 
   -- K, K′ and K of the shorter row
-  both-same : keysOf (k ++ k) .k ≡ keysOf (k ++ k) .k′
-  unfolding keysOf
+  abbrev used-3 : Keys
+  used-3 = unpackOf false 3 (k ++ k) .out
+
+  abbrev used-1 : Keys
+  used-1 = unpackOf false 1 k .out
+
+  both-same : used-3 .k ≡ used-3 .k′
+  unfolding unpackOf keysUsed
   both-same = ap bytesBits (front-k k ∙ sym (ap front (drop-at k k 16 sixteen) ∙ alone))
     where
       alone : front k ≡ k
       alone = front-full k (omega arith) ∙ take-all 16 k (omega arith)
 
-  one-same : keysOf (k ++ k) .k ≡ keysOf k .k
-  unfolding keysOf
+  one-same : used-3 .k ≡ used-1 .k
+  unfolding unpackOf keysUsed
   one-same = ap bytesBits (front-k k ∙ sym (front-full k (omega arith) ∙ take-all 16 k (omega arith)))
 
   module _ (p m : ℕ) where
     abbrev three : Agreement
-    three = record { algorithm = 3; padding = p; m = m }
+    three = record { algorithm = 3; padding = p; m = m; master = false }
 
     abbrev one : Agreement
-    one = record { algorithm = 1; padding = p; m = m }
+    one = record { algorithm = 1; padding = p; m = m; master = false }
 
     -- no rule refuses one and not the other
     faults-same : (c l : ℕ) (ten : Bool) → firstOf (oneCallFaults three (k ++ k) c l ten) ≡ firstOf (oneCallFaults one k c l ten)
-    unfolding oneCallFaults settingsFaults messageFaults firstOf pick algorithmWrong paddingWrong sizeWrong keyBytes keyBytesWrong keysSame keysWeak tooFewBlocks algorithmAt
+    unfolding oneCallFaults settingsFaults messageFaults firstOf pick algorithmWrong paddingWrong sizeWrong keyBytes masterWrong keyBytesWrong keysSame keysWeak tooFewBlocks algorithmAt
     faults-same c l ten = rw (twice, sixteen) refl
 
-    tags-same : (x : Bits) → tagged three (keysOf (k ++ k)) x ≡ tagged one (keysOf k) x
+    tags-same : (x : Bits) → tagged three (inUse three (k ++ k)) x ≡ tagged one (inUse one k) x
     unfolding algorithmAt
     tags-same x =
-        ap tagBytes (same-keys (cipherAt 1) (lawful-at 1) (methodAt p) (keysOf (k ++ k)) both-same m x ∙ first-alone (cipherAt 1) (methodAt p) (keysOf (k ++ k)) (keysOf k) one-same m x)
+        ap tagBytes (same-keys (cipherAt 1) (lawful-at 1) (methodAt p) used-3 both-same m x ∙ first-alone (cipherAt 1) (methodAt p) used-3 used-1 one-same m x)
 
   -- what two such calls come to
   pub record SameKeysMade (p l : ℕ) (ra rb : Outcome) (left-a left-b : List ℕ) : Type 0 where
@@ -97,17 +104,6 @@ module _ (k : List ℕ) (sixteen : length k ≡ 16) where
         number-at κs a x at-a ∙ faults-same p m (length bytes) l _
         ∙ ap (λ (r : List ℕ). makeFault (one p m) k bytes l r) room ∙ sym (number-at λs b y at-b)
 
-    -- the calls of an accepted message
-    counted : (A : Agreement) (s r : List ℕ) → makeFault A s bytes l r ≡ 0
-        → listed A (keysOf s) (bitsOf bytes l) ≡ blockCount (methodAt (A .padding)) (cipherAt 1 .n) l + row (algorithmAt (A .algorithm)) .further
-    unfolding bytesFor
-    counted A s r e =
-        let t = taken (settingsOf A) (length bytes) l _ (accepted-message A s (length bytes) l _ e) in
-        let long = length-bitsOf bytes l (omega (arith, t .long)) in
-        let q = ap (blockCount (methodAt (A .padding)) (cipherAt 1 .n)) long in
-        promised-at 1 (algorithmAt (A .algorithm)) (methodAt (A .padding)) (keysOf s) .calls (A .m) (bitsOf bytes l) (omega (arith, t .enough, q))
-        ∙ ap (λ (c : ℕ). c + row (algorithmAt (A .algorithm)) .further) q
-
     left-same : (d : Bool) → eqb (numberOf (x .result)) 0 ≡ d → roomLeft κs a x ≡ roomLeft λs b y
     left-same true e =
         let u = eqb-true _ 0 e in
@@ -119,12 +115,12 @@ module _ (k : List ℕ) (sixteen : length k ≡ 16) where
         make-untouched κs a x u ∙ room ∙ sym (make-untouched λs b y (λ z. u (numbers ∙ z)))
 
     pub same-keys-made : SameKeysMade p l (x .result) (y .result) (roomLeft κs a x) (roomLeft λs b y)
-    unfolding algorithmAt
+    unfolding algorithmAt pick
     same-keys-made = record {
       number = numbers;
       rooms = left-same (eqb (numberOf (x .result)) 0) refl;
-      calls-of-3 = λ u. ap (λ (r : Outcome × List ℕ). r .0) (made-at κs a x at-a u) ∙ ap Made (counted (three p m) (k ++ k) (a .1 .1 .1 .1 .0 .now) (sym (number-at κs a x at-a) ∙ u));
+      calls-of-3 = λ u. ap (λ (r : Outcome × List ℕ). r .0) (made-at κs a x at-a u) ∙ ap Made (listed-count (three p m) (k ++ k) bytes l (a .1 .1 .1 .1 .0 .now) (sym (number-at κs a x at-a) ∙ u) ∙ zero-add _);
       calls-of-1 = λ u.
           ap (λ (r : Outcome × List ℕ). r .0) (made-at λs b y at-b u)
-          ∙ ap Made (counted (one p m) k (b .1 .1 .1 .1 .0 .now) (sym (number-at λs b y at-b) ∙ u) ∙ omega arith);
+          ∙ ap Made (listed-count (one p m) k bytes l (b .1 .1 .1 .1 .0 .now) (sym (number-at λs b y at-b) ∙ u) ∙ omega arith);
     }

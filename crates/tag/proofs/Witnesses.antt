@@ -9,7 +9,7 @@ use mathlib.Core.List.{List, _∷_, _++_, flatMap}
 use Prim.Native.Nat.{ℕ, suc, _*_, _≤_, _<_}
 use native.Mathlib.Omega.{arith}
 use lib.Dec.{eqb}
-use lib.ListN.{length, getD, replicate}
+use lib.ListN.{length, getD, drop, replicate}
 use borrow.Author.Tests.{eq-eqb, le-ltb}
 use Rattle.bits.specs.Choice.{pick, firstOf}
 use Rattle.bits.specs.Str.{Bits, bitsN, digit, bytesBits, sameB, zeros, halvesFlipped, everySecond}
@@ -20,12 +20,13 @@ use Rattle.cipher.specs.Ciphers.{cipherAt}
 use Rattle.cipher.proofs.Laws.{sm4-width}
 use Rattle.mac.specs.declared.Row.{Row}
 use Rattle.mac.specs.Padding.{Method, method1, method2, method3, method4, methodAt, blockCount, prefix, suffix, gap, oneGap, complete}
-use Rattle.mac.specs.Algorithm.{Algorithm, alg1, alg2, alg3, alg4, alg5, alg6, alg7, alg8, algorithmAt, row}
+use Rattle.mac.specs.Algorithm.{Algorithm, alg1, alg2, alg3, alg4, alg5, alg6, alg7, alg8, algorithmAt, row, Keys, keys}
 use Rattle.mac.specs.Tag.{bitsOf, bytesFor}
 use Rattle.mac.proofs.Numbers.{least-two}
 use Rattle.mac.proofs.OneBlock.{Apart}
-use Rattle.keys.specs.Given.{keysOf}
-use Rattle.keys.specs.Faults.{keyBytes, keyBytesWrong, keysSame, keysWeak}
+use Rattle.mac.specs.Derive.{keysUsed}
+use Rattle.keys.specs.Given.{unpackOf}
+use Rattle.keys.specs.Faults.{keyBytes, masterWrong, keyBytesWrong, keysSame, keysWeak}
 use Rattle.settings.specs.Faults.{settingsFaults, algorithmWrong, paddingWrong, sizeWrong}
 use Rattle.settings.specs.declared.Agreement.{Agreement}
 use Rattle.message.specs.Faults.{messageFaults, lengthWrong, tooManyBits, tooFewBlocks, roomShort, tagLengthWrong, noSuchBlock}
@@ -38,7 +39,7 @@ use Rattle.tag.proofs.RestoredBlock.{restoreFault, checking}
 
 -- an agreement on full tags
 abbrev pub fullTags : ℕ → ℕ → Agreement
-fullTags a p = record { algorithm = a; padding = p; m = n }
+fullTags a p = record { algorithm = a; padding = p; m = n; master = false }
 
 -- sixteen zeros, and sixteen ones after them where there are two keys
 unfoldable pub keysFor : Bool → List ℕ
@@ -49,13 +50,17 @@ someKeys a = keysFor (row (algorithmAt a) .two)
 
 -- ---- no rule refuses them
 
+-- the keys in use
+abbrev used : Bool → Keys
+used two = keys (bytesBits (front (keysFor two))) (bytesBits (front (drop 16 (keysFor two))))
+
 record Good (A : Algorithm) : Type 0 where
   long : not (eqb (length (keysFor (row A .two))) (pick (row A .two) 32 16)) ≡ false
-  differ : (row A .differ && sameB (keysOf (keysFor (row A .two)) .k) (keysOf (keysFor (row A .two)) .k′)) || (row A .third && sameB (keysOf (keysFor (row A .two)) .k) (keysOf (keysFor (row A .two)) .k″)) ≡ false
-  strong : row A .third && sameB (keysOf (keysFor (row A .two)) .k′) (keysOf (keysFor (row A .two)) .k″) ≡ false
+  differ : (row A .differ && sameB (used (row A .two) .k) (used (row A .two) .k′)) || (row A .third && sameB (used (row A .two) .k) (used (row A .two) .k″)) ≡ false
+  strong : row A .third && sameB (used (row A .two) .k′) (used (row A .two) .k″) ≡ false
 
 good : (A : Algorithm) → Good A
-unfolding keysFor keysOf front bytesBits flatMap bitsN digit sameB halvesFlipped everySecond pick
+unfolding keysFor front bytesBits flatMap bitsN digit sameB halvesFlipped everySecond pick
 good alg1 = record { long = refl; differ = refl; strong = refl }
 good alg2 = record { long = refl; differ = refl; strong = refl }
 good alg3 = record { long = refl; differ = refl; strong = refl }
@@ -75,7 +80,7 @@ two-blocks method4 = omega arith
 
 pub full-accepted : (a p : ℕ) → algorithmWrong a ≡ false → paddingWrong a p ≡ false → sizeWrong a n ≡ false
     → (x room : List ℕ) → length x ≡ 32 → 16 ≤ length room → makeFault (fullTags a p) (someKeys a) x 256 room ≡ 0
-unfolding oneCallFaults settingsFaults messageFaults someKeys keyBytesWrong keyBytes keysSame keysWeak lengthWrong tooManyBits tooFewBlocks roomShort bytesFor cipherAt
+unfolding oneCallFaults settingsFaults messageFaults someKeys unpackOf keysUsed masterWrong keyBytesWrong keyBytes keysSame keysWeak lengthWrong tooManyBits tooFewBlocks roomShort bytesFor cipherAt pick
 full-accepted a p e1 e2 e3 x room long wide =
     let A = algorithmAt a in
     clear-first

@@ -13,7 +13,7 @@ use Rattle.mac.specs.Padding.{methodAt}
 use Rattle.mac.specs.Algorithm.{algorithmAt, Keys}
 use Rattle.mac.specs.Tag.{bitsOf, bytesFor, tagBytes}
 use Rattle.mac.specs.Lost.{lostBlock}
-use Rattle.keys.specs.Given.{keysOf}
+use Rattle.settings.specs.InUse.{inUse}
 use Rattle.settings.specs.Answers.{settingsOf}
 use Rattle.settings.specs.declared.Agreement.{Agreement}
 use Rattle.settings.specs.declared.Settings.{Settings}
@@ -26,7 +26,7 @@ use Rattle.tag.specs.declared.Restored.the-variants.{Filled, Refused}
 
 -- 3 is also for an m that is not a full tag's: it counts as 0, which 3 refuses (`restore-order`)
 unfoldable pub fullOnly : Agreement → Agreement
-fullOnly A = pick (eqb (A .m) (cipherAt 1 .n)) A (record { algorithm = A .algorithm; padding = A .padding; m = 0 })
+fullOnly A = pick (eqb (A .m) (cipherAt 1 .n)) A (record { algorithm = A .algorithm; padding = A .padding; m = 0; master = A .master })
 
 -- 1 to 10 as when checking a tag of t bytes, then 41
 unfoldable pub restoreFaults : Agreement → List ℕ → ℕ → ℕ → ℕ → ℕ → List Fault
@@ -49,7 +49,7 @@ restoredBy fault S K message l j tag = pick (eqb fault 0) (Filled, withBlock j m
 
 unfoldable pub restoreOf : Agreement → List ℕ → List ℕ → ℕ → ℕ → List ℕ → Restored × List ℕ
 restoreOf A s message l j tag =
-    restoredBy (firstOf (restoreFaults A s (length message) l j (length tag))) (settingsOf A) (keysOf s) message l j tag
+    restoredBy (firstOf (restoreFaults A s (length message) l j (length tag))) (settingsOf A) (inUse A s) message l j tag
 
 -- the number of an answer, 0 where the block stands in the message again
 unfoldable pub restoredNumber : Restored → ℕ

@@ -8,10 +8,11 @@ ghost use Rattle.block.specs.Block.{storage, filledBlock};
 ghost use Rattle.cipher.specs.Cipher.{Cipher};
 ghost use Rattle.cipher.specs.Ciphers.{cipherAt};
 ghost use Rattle.mac.specs.declared.Row.{Row};
+ghost use Rattle.mac.specs.Run.{Run};
 ghost use Rattle.mac.specs.Padding.{methodAt, blockCount};
-ghost use Rattle.mac.specs.Algorithm.{algorithmAt, row};
+ghost use Rattle.mac.specs.Algorithm.{algorithmAt, row, Keys};
 ghost use Rattle.mac.specs.Tag.{bytesFor};
-ghost use Rattle.keys.specs.Given.{keyBits};
+ghost use Rattle.keys.specs.Given.{keyBits, Unpacks};
 ghost use Rattle.tag.specs.OneCall.{tagAt, makeOf, checkOf, makeUnder, checkUnder};
 ghost use Rattle.tag.specs.Restore.{fullOnly, lostAt, restoreOf, restoreUnder};
 
@@ -41,22 +42,23 @@ fn tag_block(s: settings::Settings, keys: keys::KeyBlocks, message: &[u8], bits:
 // A tag made under sound settings, or refusals 7 to 10.
 fn make_under(
     s: settings::Settings,
-    keys: keys::KeyBlocks,
+    unpacked: keys::Unpacked,
     message: &[u8],
     bits: usize,
     room: &mut [u8],
 ) -> settings::Outcome
     requires { ⌜ (0 < s .m) × (s .m ≤ storage) ⌝ }
-    ensures { λ r. ⌜ (r, now (room .exit)) ≡ makeUnder s (keyBits keys) (now (message .entry)) bits (now (room .entry)) ⌝ }
+    ensures { λ r. ⌜ ((R : Run Keys) → Unpacks unpacked R → (r, now (room .exit)) ≡ makeUnder s R (now (message .entry)) bits (now (room .entry))) ⌝ }
 {
     let ten = message::room_short(s.m, room.len());
     let no = message::refusal(s, message.len(), bits, ten);
     if no != 0 {
         return settings::Outcome::Refused(no);
     }
+    let keys = unpacked.keys;
     let tag = tag_block(s, keys, message, bits);
     block::put(tag, message::bytes_for(s.m), room);
-    settings::Outcome::Made(chain::calls(cipher::SM4, s, bits))
+    settings::Outcome::Made(chain::calls(cipher::SM4, s, unpacked.calls, bits))
 }
 
 // Makes the tag of a message's first bits into the first bytes of the room.
@@ -69,8 +71,9 @@ pub fn make(
 ) -> settings::Outcome
     ensures { λ r. ⌜ (r, now (room .exit)) ≡ makeOf agreement (now (keys .entry)) (now (message .entry)) bits (now (room .entry)) ⌝ }
 {
-    let unpacked = keys::unpack(keys);
-    let checked = settings::Settings::checked(agreement, keys.len(), unpacked);
+    let unpacked = settings::unpack(agreement, keys);
+    let used = unpacked.keys;
+    let checked = settings::Settings::checked(agreement, keys.len(), used);
     match checked {
         settings::Checked::Unsound(no) => settings::Outcome::Refused(no),
         settings::Checked::Sound(s) => make_under(s, unpacked, message, bits, room),
@@ -80,21 +83,22 @@ pub fn make(
 // A tag checked under sound settings, or refusals 7 to 10.
 fn check_under(
     s: settings::Settings,
-    keys: keys::KeyBlocks,
+    unpacked: keys::Unpacked,
     message: &[u8],
     bits: usize,
     offered: &[u8],
 ) -> settings::Outcome
     requires { ⌜ (0 < s .m) × (s .m ≤ storage) ⌝ }
-    ensures { λ r. ⌜ r ≡ checkUnder s (keyBits keys) (now (message .entry)) bits (now (offered .entry)) ⌝ }
+    ensures { λ r. ⌜ ((R : Run Keys) → Unpacks unpacked R → r ≡ checkUnder s R (now (message .entry)) bits (now (offered .entry))) ⌝ }
 {
     let ten = message::tag_length_wrong(s.m, offered.len());
     let no = message::refusal(s, message.len(), bits, ten);
     if no != 0 {
         return settings::Outcome::Refused(no);
     }
+    let keys = unpacked.keys;
     let tag = tag_block(s, keys, message, bits);
-    let calls = chain::calls(cipher::SM4, s, bits);
+    let calls = chain::calls(cipher::SM4, s, unpacked.calls, bits);
     let n = message::bytes_for(s.m);
     if block::equal_bytes(offered, &tag[..n]) {
         return settings::Outcome::Yes(calls);
@@ -112,8 +116,9 @@ pub fn check(
 ) -> settings::Outcome
     ensures { λ r. ⌜ r ≡ checkOf agreement (now (keys .entry)) (now (message .entry)) bits (now (offered .entry)) ⌝ }
 {
-    let unpacked = keys::unpack(keys);
-    let checked = settings::Settings::checked(agreement, keys.len(), unpacked);
+    let unpacked = settings::unpack(agreement, keys);
+    let used = unpacked.keys;
+    let checked = settings::Settings::checked(agreement, keys.len(), used);
     match checked {
         settings::Checked::Unsound(no) => settings::Outcome::Refused(no),
         settings::Checked::Sound(s) => check_under(s, unpacked, message, bits, offered),
@@ -133,6 +138,7 @@ fn full_only(agreement: settings::Agreement) -> settings::Agreement
         algorithm: agreement.algorithm,
         padding: agreement.padding,
         m: 0,
+        master: agreement.master,
     }
 }
 
@@ -195,10 +201,11 @@ pub fn restore(
 ) -> Restored
     ensures { λ r. ⌜ (r, now (message .exit)) ≡ restoreOf agreement (now (keys .entry)) (now (message .entry)) bits block (now (tag .entry)) ⌝ }
 {
-    let unpacked = keys::unpack(keys);
-    let checked = settings::Settings::checked(full_only(agreement), keys.len(), unpacked);
+    let unpacked = settings::unpack(agreement, keys);
+    let used = unpacked.keys;
+    let checked = settings::Settings::checked(full_only(agreement), keys.len(), used);
     match checked {
         settings::Checked::Unsound(no) => Restored::Refused(no),
-        settings::Checked::Sound(s) => restore_under(s, unpacked, message, bits, block, tag),
+        settings::Checked::Sound(s) => restore_under(s, used, message, bits, block, tag),
     }
 }

@@ -5,8 +5,9 @@
 // the finish for making, and gets yes, and no where a spare bit is set; a struct whose purpose is neither of the two comes back as
 // it came; a slip is read under what was agreed, under another key and under another m; the same slip is gathered from two reads,
 // and read after the first, after both and with one byte more; two records with junk in them, one with a forged count, are read and
-// gathered on; the same slip is written, and refused a room that is a byte too small. Every answer is known beforehand
-// (docs/ARCHITECTURE.md, "Tests").
+// gathered on; the same slip is written, and refused a room that is a byte too small; and under a master, with each number that may
+// stand for it, tags are made and checked, in sessions too, a struct whose master is neither 0 nor 1 comes back as it came, slips are
+// written and read, and a block is restored. Every answer is known beforehand (docs/ARCHITECTURE.md, "Tests").
 const KEYS: [u8; 32] = *b"\
     \x01\x23\x45\x67\x89\xab\xcd\xef\xfe\xdc\xba\x98\x76\x54\x32\x10\
     \x41\x49\xd2\xad\xed\x94\x56\x68\x1e\xc8\xb5\x11\xd9\xe7\xee\x04";
@@ -24,12 +25,17 @@ const JUNK: [u8; 80] = *b"\
     \xcc\xcc\xcc\xcc\xcc\xcc\xcc\xcc\xcc\xcc\xcc\xcc\xcc\
     \xdd\xdd\xdd\xdd";
 
-// The message of A.1 with one of its two blocks lost, and the G of it under padding 1.
+// The message of A.1, with one of its two blocks lost too, and the G of it under padding 1.
+const MESSAGE: [u8; 32] = *b"This is the test message for mac";
+
 const FIRST_LOST: [u8; 32] = *b"???????????????? message for mac";
 
 const SECOND_LOST: [u8; 32] = *b"This is the test????????????????";
 
 const TAG: [u8; 16] = *b"\x16\xe0\x29\x04\xef\xb7\x65\xb7\x06\x45\x9c\x9e\xda\xbd\xb5\x19";
+
+// The G of it under algorithm 6 and padding 1, with the keys derived from the first of the keys above (A.7).
+const MASTER_TAG: [u8; 16] = *b"\xb3\x8a\x96\x19\x5b\xaa\x61\xfc\xd7\x82\x05\x9f\x35\x9e\x6e\xd5";
 
 // 2^57: 128 times as much is 2^64.
 const FAR: usize = 144115188075855872;
@@ -52,6 +58,13 @@ fn main() {
     forged(&keys[0..16], 37);
     forged(&keys[0..16], 1000);
     write(&keys[0..16]);
+    masters(&keys[0..16]);
+    masters_of_two(&keys);
+    master_in_session(&keys[0..16]);
+    master_in_check(&keys[0..16]);
+    sealed(6, &keys[0..16]);
+    sealed(4, &keys);
+    master_lost(&keys[0..16]);
 }
 
 fn number(n: usize) {
@@ -85,10 +98,11 @@ fn bytes(s: &[u8]) {
 }
 
 fn one_call(key: &[u8]) {
-    let agreed = settings::Agreement {
+    let agreed = slipseal::Agreement {
         algorithm: 1,
         padding: 1,
         m: 64,
+        master: 0,
     };
     let mut tag = [0xEEu8; 9];
     tell(
@@ -112,10 +126,11 @@ fn one_call(key: &[u8]) {
 
 // The message of A.1, its first block or its second lost: each restored; the first worked out of a false tag; and what is refused.
 fn lost_blocks(key: &[u8]) {
-    let full = settings::Agreement {
+    let full = slipseal::Agreement {
         algorithm: 1,
         padding: 1,
         m: 128,
+        master: 0,
     };
     let tag = TAG;
     let other = [0xEEu8; 16];
@@ -130,15 +145,17 @@ fn lost_blocks(key: &[u8]) {
 }
 
 fn not_full_tags(key: &[u8]) {
-    let half = settings::Agreement {
+    let half = slipseal::Agreement {
         algorithm: 1,
         padding: 1,
         m: 64,
+        master: 0,
     };
-    let seven = settings::Agreement {
+    let seven = slipseal::Agreement {
         algorithm: 7,
         padding: 4,
         m: 128,
+        master: 0,
     };
     let tag = TAG;
     restore(b"64 bits:", half, key, FIRST_LOST, 256, 0, &tag[0..8]);
@@ -148,7 +165,7 @@ fn not_full_tags(key: &[u8]) {
 // The answer, the message after it, and what a check then says.
 fn restore(
     what: &[u8],
-    agreed: settings::Agreement,
+    agreed: slipseal::Agreement,
     key: &[u8],
     message: [u8; 32],
     bits: usize,
@@ -200,10 +217,11 @@ fn finish_in_fifteen(s: slipseal::Session) -> slipseal::Session {
 }
 
 fn in_session(keys: &[u8]) {
-    let agreed = settings::Agreement {
+    let agreed = slipseal::Agreement {
         algorithm: 4,
         padding: 2,
         m: 128,
+        master: 0,
     };
     let ones = [0xFFu8; 16];
     let begun = handed(b"start:", slipseal::slipseal_start(agreed, keys, 0));
@@ -235,10 +253,11 @@ fn expected(s: slipseal::Session) {
 
 // A check of this tag, of twelve bits, with one byte of the message and then two, and the tag in the struct.
 fn fed_check(key: &[u8], tag: &[u8]) -> slipseal::Session {
-    let agreed = settings::Agreement {
+    let agreed = slipseal::Agreement {
         algorithm: 1,
         padding: 1,
         m: 12,
+        master: 0,
     };
     let begun = handed(
         b"start of a check:",
@@ -267,10 +286,11 @@ fn check_in_session(key: &[u8]) {
 
 // The slip is sealed under algorithm 5, padding 4 and 64 bits.
 fn read(m: usize, key: &[u8], slip: &[u8]) {
-    let agreed = settings::Agreement {
+    let agreed = slipseal::Agreement {
         algorithm: 5,
         padding: 4,
         m,
+        master: 0,
     };
     tell_slip(b"read:", slipseal::slipseal_read(agreed, key, slip));
 }
@@ -289,10 +309,11 @@ fn tell_slip(what: &[u8], answer: slipseal::Slip) {
 }
 
 fn read_gathered(what: &[u8], key: &[u8], g: slip::Gathered) {
-    let agreed = settings::Agreement {
+    let agreed = slipseal::Agreement {
         algorithm: 5,
         padding: 4,
         m: 64,
+        master: 0,
     };
     tell_slip(what, slipseal::slipseal_read_gathered(agreed, key, g));
 }
@@ -327,18 +348,19 @@ fn forged(key: &[u8], count: usize) {
 
 // The slip into a room of a byte more, and into one of a byte less.
 fn write(key: &[u8]) {
-    let mut room = [0xEEu8; 38];
-    write_into(key, &mut room);
-    let mut short = [0xEEu8; 36];
-    write_into(key, &mut short);
-}
-
-fn write_into(key: &[u8], room: &mut [u8]) {
-    let agreed = settings::Agreement {
+    let agreed = slipseal::Agreement {
         algorithm: 5,
         padding: 4,
         m: 64,
+        master: 0,
     };
+    let mut room = [0xEEu8; 38];
+    write_into(agreed, key, &mut room);
+    let mut short = [0xEEu8; 36];
+    write_into(agreed, key, &mut short);
+}
+
+fn write_into(agreed: slipseal::Agreement, key: &[u8], room: &mut [u8]) {
     let answer = slipseal::slipseal_write(agreed, key, 2026, 11, 4, b"A7", 500, room);
     print(b"write:");
     number(answer.number);
@@ -346,4 +368,126 @@ fn write_into(key: &[u8], room: &mut [u8]) {
     number(answer.calls);
     print(b"\n");
     bytes(room);
+}
+
+// Padding 1, with 64 bits.
+fn mastered(algorithm: usize, master: usize) -> slipseal::Agreement {
+    slipseal::Agreement {
+        algorithm,
+        padding: 1,
+        m: 64,
+        master,
+    }
+}
+
+// A.7's data 1 under its master, told by each number.
+fn masters(key: &[u8]) {
+    make_under(b"master 0:", mastered(6, 0), key);
+    make_under(b"master 1:", mastered(6, 1), key);
+    make_under(b"master 2:", mastered(6, 2), key);
+    make_under(b"the largest master:", mastered(6, LAST), key);
+}
+
+// R8 of algorithm 4, where the second key is the master; and algorithm 3, which takes none.
+fn masters_of_two(keys: &[u8]) {
+    make_under(b"algorithm 4:", mastered(4, 1), keys);
+    make_under(b"algorithm 3:", mastered(3, 1), keys);
+}
+
+fn make_under(what: &[u8], agreed: slipseal::Agreement, keys: &[u8]) {
+    let message = MESSAGE;
+    let mut tag = [0xEEu8; 9];
+    tell(
+        what,
+        slipseal::slipseal_make(agreed, keys, &message, 256, &mut tag),
+    );
+    bytes(&tag);
+    tell(
+        b"check:",
+        slipseal::slipseal_check(agreed, keys, &message, 256, &tag[0..8]),
+    );
+}
+
+// The master's number in the struct, and the keys.
+fn kept(s: slipseal::Session) {
+    let agreed = s.agreement;
+    print(b" ");
+    number(agreed.master);
+    print(b"\n");
+    let keys = s.keys;
+    bytes(&keys);
+}
+
+fn with_master(s: slipseal::Session, master: usize) -> slipseal::Session {
+    let mut agreed = s.agreement;
+    agreed.master = master;
+    let mut other = s;
+    other.agreement = agreed;
+    other
+}
+
+// The tag of A.7's data 1 in a session, in which the struct comes with 2 and with the largest number for its master.
+fn master_in_session(key: &[u8]) {
+    let message = MESSAGE;
+    let begun = handed(
+        b"start:",
+        slipseal::slipseal_start(mastered(6, LAST), key, 0),
+    );
+    kept(begun);
+    let all = handed(b"piece:", slipseal::slipseal_piece(begun, &message, 256));
+    let odd = handed(
+        b"an odd master:",
+        slipseal::slipseal_piece(with_master(all, 2), b"d", 8),
+    );
+    kept(odd);
+    let odder = finish(b"an odd master:", with_master(all, LAST));
+    kept(odder);
+    finish_check(with_master(all, 2));
+    finish(b"finish:", all);
+}
+
+// The same tag checked in a session.
+fn master_in_check(key: &[u8]) {
+    let message = MESSAGE;
+    let tag = MASTER_TAG;
+    let begun = handed(
+        b"start of a check:",
+        slipseal::slipseal_start_check(mastered(6, 2), key, 0, &tag[0..8]),
+    );
+    kept(begun);
+    let all = handed(b"piece:", slipseal::slipseal_piece(begun, &message, 256));
+    finish_check(all);
+}
+
+// The slip's fields, sealed under a master, and read with it and without.
+fn sealed(algorithm: usize, keys: &[u8]) {
+    let agreed = mastered(algorithm, 1);
+    let mut slip = [0xEEu8; 37];
+    write_into(agreed, keys, &mut slip);
+    tell_slip(b"read:", slipseal::slipseal_read(agreed, keys, &slip));
+    let none = slip::Gathered {
+        count: 0,
+        bytes: [0u8; 80],
+    };
+    let all = slipseal::slipseal_gather(none, &slip);
+    tell_slip(
+        b"gathered:",
+        slipseal::slipseal_read_gathered(agreed, keys, all),
+    );
+    tell_slip(
+        b"without the master:",
+        slipseal::slipseal_read(mastered(algorithm, 0), keys, &slip),
+    );
+}
+
+fn master_lost(key: &[u8]) {
+    let full = slipseal::Agreement {
+        algorithm: 6,
+        padding: 1,
+        m: 128,
+        master: 1,
+    };
+    let tag = MASTER_TAG;
+    restore(b"block 0:", full, key, FIRST_LOST, 256, 0, &tag);
+    restore(b"block 1:", full, key, SECOND_LOST, 256, 1, &tag);
 }

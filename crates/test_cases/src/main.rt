@@ -34,11 +34,11 @@
 //     write A P M KEYS YEAR MONTH DAY LOT AMOUNT ROOM   written LENGTH bytes CALLS calls and the room's bytes; or refused N, "with values"
 //                                         where length or calls are not 0, and whether the room is untouched
 //
-// Numbers are decimal and below 2^64. Bytes are hex digits, at most 4096 bytes, and - is no bytes. ROOM is a number of bytes up to
-// 32, of write up to 96, each EE before the call. The commands from start to same, start_check, finish_check and aim act on one
-// session, closed and zero at the text's first line, and print its phase after their answer; PHASE is 0 closed, 1 at a byte edge, 2
-// after a part byte of PART bits, and PURPOSE 0 making, 1 checking. A line whose first word is # is printed alone. No other line is
-// looked for: tests/make-runs stores none that the reference cannot read.
+// Numbers are decimal and below 2^64. M may end in *, as 64*: a master is in use. Bytes are hex digits, at most 4096 bytes, and -
+// is no bytes. ROOM is a number of bytes up to 32, of write up to 96, each EE before the call. The commands from start to same,
+// start_check, finish_check and aim act on one session, closed and zero at the text's first line, and print its phase after their
+// answer; PHASE is 0 closed, 1 at a byte edge, 2 after a part byte of PART bits, and PURPOSE 0 making, 1 checking. A line whose
+// first word is # is printed alone. No other line is looked for: tests/make-runs stores none that the reference cannot read.
 mod bytewise;
 mod calls;
 mod gathered;

@@ -15,6 +15,7 @@ pub(crate) fn closed() -> State {
         algorithm: 0,
         padding: 0,
         m: 0,
+        master: false,
     };
     let session = session::start(agreement, b"", 0).session;
     State {
@@ -170,6 +171,7 @@ fn forged(line: &[u8]) -> session::Session {
         algorithm: words::number(line, 3),
         padding: words::number(line, 4),
         m: words::number(line, 5),
+        master: words::starred(line, 5),
     };
     let keys = block::pair(words::block(line, 8), words::block(line, 9));
     let value = words::block(line, 10);
@@ -241,6 +243,7 @@ fn differing(a: session::Session, b: session::Session) -> usize {
         | agreement_a.algorithm ^ agreement_b.algorithm
         | agreement_a.padding ^ agreement_b.padding
         | agreement_a.m ^ agreement_b.m
+        | agreement_a.master as usize ^ agreement_b.master as usize
         | a.declared ^ b.declared
         | a.total ^ b.total
 }

@@ -50,16 +50,23 @@ fn digit(c: u8) -> u8 {
     (c / 64 * 9 + c % 16) % 16
 }
 
-// The number that a word of a line is.
+// The number that a word of a line is, up to a star.
 pub(crate) fn number(line: &[u8], before: usize) -> usize {
     let word = word(line, before);
+    let end = find(word, 0, b'*');
     let mut n: usize = 0;
     let mut i = 0;
-    while i < word.len() {
+    while i < end {
         n = std::num::wrapping_add_usize(n % 1844674407370955162 * 10, (word[i] % 16) as usize);
         i += 1;
     }
     n
+}
+
+// Whether a word of a line has a star.
+pub(crate) fn starred(line: &[u8], before: usize) -> bool {
+    let word = word(line, before);
+    find(word, 0, b'*') < word.len()
 }
 
 // The agreement that the first three words after the command are.
@@ -68,6 +75,7 @@ pub(crate) fn agreement(line: &[u8]) -> settings::Agreement {
         algorithm: number(line, 1),
         padding: number(line, 2),
         m: number(line, 3),
+        master: starred(line, 3),
     }
 }
 

@@ -3,7 +3,7 @@
 -- byte. And a slip that names m = 1, refused under that agreement, whatever the keys.
 -- Assumes nothing.
 use mathlib.Core.Path.{_≡_, refl}
-use mathlib.Core.Bool.{xor}
+use mathlib.Core.Bool.{false, xor}
 use mathlib.Core.List.{List, [], _∷_, _++_, flatMap, zipWith}
 use Prim.Native.Nat.{ℕ}
 use Rattle.bits.specs.Choice.{pick, firstOf}
@@ -14,13 +14,14 @@ use Rattle.sm4.specs.Cipher.{quad, flat, four, Sbox, τ, L, L′, T, T′, F, r
 use Rattle.cipher.specs.Ciphers.{cipherAt}
 use Rattle.mac.specs.Padding.{methodAt, complete, gap, oneGap, prefix, suffix, pad, D}
 use Rattle.mac.specs.Algorithm.{algorithmAt, step, steps}
-use Rattle.mac.specs.Tag.{some, H, G, mac, tagOf, callsOf, bitsOf, bytesFor, byteGroups, tagBytes}
-use Rattle.keys.specs.Given.{keysOf}
-use Rattle.keys.specs.Faults.{keyBytes, keyBytesWrong, keysSame, keysWeak}
+use Rattle.mac.specs.Tag.{some, H, G, mac, tagOf, bitsOf, bytesFor, byteGroups, tagBytes}
+use Rattle.mac.specs.Derive.{keysUsed, macFrom}
+use Rattle.keys.specs.Given.{unpackOf}
+use Rattle.keys.specs.Faults.{keyBytes, masterWrong, keyBytesWrong, keysSame, keysWeak}
 use Rattle.settings.specs.Faults.{settingsFaults, algorithmWrong, paddingWrong, sizeWrong}
 use Rattle.settings.specs.declared.Agreement.{Agreement}
 use Rattle.message.specs.Faults.{tagLengthWrong}
-use Rattle.tag.specs.OneCall.{tagAt, callsAt}
+use Rattle.tag.specs.OneCall.{tagAt, runAt, callsAt}
 use Rattle.fields.specs.Field.{outside, anyOutside, twoBytes, lengthOf, value, endOf, fieldFaults}
 use Rattle.fields.specs.Date.{digitAt, twoDigits, yearOf, monthOf, dayOf, days, leap, daysIn, dateWrong}
 use Rattle.fields.specs.Layout.{lotAt, amountAt, sealAt, lotField, amountField, sealField, covered, amountOf, expiryFaults, lotFaults, amountFaults, sealFaults, layoutFaults}
@@ -37,14 +38,14 @@ sealed = coveredP12 ++ (0x7f ∷ 0x00 ∷ 0x0b ∷ 5 ∷ 4 ∷ 64 ∷ 0xa4 ∷ 0
 
 -- what was agreed for it
 abbrev pub agreed : Agreement
-agreed = record { algorithm = 5; padding = 4; m = 64 }
+agreed = record { algorithm = 5; padding = 4; m = 64; master = false }
 
 pub accepted-example : readOf agreed key sealed ≡ record { number = 0; calls = 3; contents = record { year = 2026; month = 11; day = 4; amount = 500; «lot_at» = 14; «lot_len» = 2 } }
-unfolding pick firstOf bitsN digit numOf bytesBits flatMap words zeros xorB zipWith xor sameBytes rotl leftmost filled shiftl double halvesFlipped everySecond front sbox FK ck CK CKs quad flat four Sbox τ L L′ T T′ F round rounds made R enc roundKeys encrypted cipherAt methodAt complete gap oneGap prefix suffix pad D algorithmAt step steps some H G mac tagOf callsOf bitsOf bytesFor byteGroups tagBytes keysOf settingsFaults algorithmWrong paddingWrong sizeWrong keyBytes keyBytesWrong keysSame keysWeak tagLengthWrong tagAt callsAt outside anyOutside twoBytes lengthOf value endOf fieldFaults digitAt twoDigits yearOf monthOf dayOf days leap daysIn dateWrong lotAt amountAt sealAt lotField amountField sealField covered amountOf expiryFaults lotFaults amountFaults sealFaults layoutFaults namedValues agreementUnmet tagNamed sealDefined sealCalls sealWrong slipFaults contentsOf acceptedSlip readOf
+unfolding pick firstOf bitsN digit numOf bytesBits flatMap words zeros xorB zipWith xor sameBytes rotl leftmost filled shiftl double halvesFlipped everySecond front sbox FK ck CK CKs quad flat four Sbox τ L L′ T T′ F round rounds made R enc roundKeys encrypted cipherAt methodAt complete gap oneGap prefix suffix pad D algorithmAt step steps some H G mac tagOf macFrom keysUsed bitsOf bytesFor byteGroups tagBytes unpackOf settingsFaults algorithmWrong paddingWrong sizeWrong keyBytes masterWrong keyBytesWrong keysSame keysWeak tagLengthWrong tagAt runAt callsAt outside anyOutside twoBytes lengthOf value endOf fieldFaults digitAt twoDigits yearOf monthOf dayOf days leap daysIn dateWrong lotAt amountAt sealAt lotField amountField sealField covered amountOf expiryFaults lotFaults amountFaults sealFaults layoutFaults namedValues agreementUnmet tagNamed sealDefined sealCalls sealWrong slipFaults contentsOf acceptedSlip readOf
 accepted-example = refl
 
 pub written-example : slipOf agreed key (said 2026 11 4 (0x41 ∷ 0x37 ∷ []) 500) ≡ sealed
-unfolding pick bitsN digit numOf bytesBits flatMap words zeros xorB zipWith xor rotl leftmost filled shiftl double halvesFlipped everySecond front sbox FK ck CK CKs quad flat four Sbox τ L L′ T T′ F round rounds made R enc roundKeys encrypted cipherAt methodAt complete gap oneGap prefix suffix pad D algorithmAt step steps some H G mac tagOf callsOf bitsOf bytesFor byteGroups tagBytes keysOf tagAt callsAt twoBytes lengthOf endOf lotAt amountAt sealAt covered sealDefined sealCalls digitOf expiryValue amountValue coveredOf sealedBy slipOf
+unfolding pick bitsN digit numOf bytesBits flatMap words zeros xorB zipWith xor rotl leftmost filled shiftl double halvesFlipped everySecond front sbox FK ck CK CKs quad flat four Sbox τ L L′ T T′ F round rounds made R enc roundKeys encrypted cipherAt methodAt complete gap oneGap prefix suffix pad D algorithmAt step steps some H G mac tagOf macFrom keysUsed bitsOf bytesFor byteGroups tagBytes unpackOf tagAt runAt callsAt twoBytes lengthOf endOf lotAt amountAt sealAt covered sealDefined sealCalls digitOf expiryValue amountValue coveredOf sealedBy slipOf
 written-example = refl
 
 -- a slip that names m = 1, with the first bit of that seal

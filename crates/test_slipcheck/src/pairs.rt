@@ -1,9 +1,11 @@
 // slipprint on words of this program's own arguments, then slipcheck on the file that it was to make, under the same agreement. After
 // the arguments that checks.rt and certificates.rt take, eight make a row: the file of the typed keys, and slipprint's seven words.
-ghost use Prim.Native.Nat.{_≤_};
+ghost use Prim.Native.Nat.{_+_, _*_, _≤_};
 ghost use Rattle.io.specs.Counts.{Counts};
 
 const FIRST_ROW: usize = 535;
+
+const ROWS: usize = 104;
 
 // What a slip's file can have, and one byte more.
 const MOST: usize = 76;
@@ -15,50 +17,53 @@ pub(crate) fn run() {
     not_seven(3, 1);
     not_seven(FIRST_ROW + 1, 6);
     not_seven(FIRST_ROW + 1, 8);
-    rows();
+    rows(FIRST_ROW, ROWS, 0);
     compare(b"printed", b"slip");
     compare(b"two", b"two_keys");
     compare(b"zeros", b"slip");
 }
 
-// Other numbers of words than seven: misuse, or a word that asks how the program is used.
-fn not_seven(at: usize, count: usize)
-    requires { ⌜ (at ≤ 65536) × (count ≤ 8) ⌝ }
+// Other numbers of words than seven: misuse, or a word that asks how the program is used; an eighth that is not master.
+pub(crate) fn not_seven(at: usize, count: usize)
+    requires { ⌜ (at ≤ 65536) × (count ≤ 9) ⌝ }
 {
     print_words(at, count);
     tool::answer_print(libc::STDIN_FILENO, at, count);
 }
 
-// As many rows as there are, of at most 512.
-fn rows() {
-    let count = os::arg_count();
-    let mut at = FIRST_ROW;
-    while at < 4096 && at + 7 < count {
-        pair(at);
-        at += 8;
+// So many rows from this argument on, with so many words after M in each.
+pub(crate) fn rows(first: usize, rows: usize, further: usize)
+    requires { ⌜ (first + 9 * rows ≤ 4096) × (further ≤ 1) ⌝ }
+{
+    let mut at = first;
+    let mut left = rows;
+    while 0 < left {
+        pair(at, further);
+        at += 8 + further;
+        left -= 1;
     }
 }
 
-fn pair(at: usize)
-    requires { ⌜ at ≤ 4096 ⌝ }
+fn pair(at: usize, further: usize)
+    requires { ⌜ (at ≤ 4096) × (further ≤ 1) ⌝ }
 {
-    print_words(at, 8);
+    print_words(at, 8 + further);
     let typed = open_keys(at);
-    tool::answer_print(typed, at + 1, 7);
+    tool::answer_print(typed, at + 1, 7 + further);
     libc::close(typed);
     print(b"--\n");
     let again = open_keys(at);
-    check_made(again, at);
+    check_made(again, at, further);
     libc::close(again);
 }
 
 // The file and the agreement of a row.
-fn check_made(typed: i32, at: usize)
+fn check_made(typed: i32, at: usize, further: usize)
     requires { ⌜ at ≤ 4096 ⌝ }
 {
     let mut name = io::buffer();
     let n = os::arg(at + 1, &mut name);
-    tool::answer_named(typed, &name[..n], at + 5);
+    tool::answer_named(typed, &name[..n], at + 5, further);
 }
 
 // The file of a row's typed keys, open.
@@ -70,7 +75,7 @@ pub(crate) fn open_keys(at: usize) -> i32 {
 
 // A line with so many arguments from one on.
 pub(crate) fn print_words(at: usize, count: usize)
-    requires { ⌜ (at ≤ 65536) × (count ≤ 8) ⌝ }
+    requires { ⌜ (at ≤ 65536) × (count ≤ 9) ⌝ }
 {
     print(b"==");
     let mut i = 0;
@@ -96,7 +101,7 @@ fn print_word(at: usize) {
 }
 
 // Whether two slips' files have the same bytes.
-fn compare(name: &[u8], other: &[u8]) {
+pub(crate) fn compare(name: &[u8], other: &[u8]) {
     let mut room = [0u8; MOST];
     let n = read(name, &mut room);
     let mut other_room = [0u8; MOST];

@@ -1,5 +1,5 @@
-// The words that a program is started with. Three of them, ALGORITHM PADDING M, are what was agreed: they come from here alone, never
-// from a slip.
+// The words that a program is started with. The last of them, ALGORITHM PADDING M and then master where a master key is in use, are
+// what was agreed: they come from here alone, never from a slip.
 ghost use Prim.Native.Nat.{_≤_};
 use crate::first;
 use crate::numbers;
@@ -9,9 +9,12 @@ use words::print;
 // A program's words begin no later than here, so that the numbers of its arguments can be added to.
 pub(crate) const LAST: usize = 65536;
 
+// So many words may come after M.
+const FURTHER: usize = 1;
+
 pub(crate) enum Agreed {
-    Numbers(settings::Agreement),
-    // One of the three is no number, and that was said.
+    Words(settings::Agreement),
+    // One of the words is not what stands in its place, and that was said.
     Unread,
 }
 
@@ -21,18 +24,22 @@ pub(crate) enum Asked {
     One,
     // There are more or fewer than the program takes.
     Misuse,
-    // The first is the name of a file; so many bytes of it are in the room.
-    Named(usize),
+    // The first is the name of a file, of which so many bytes are in the room; and so many words come after M.
+    Named(usize, usize),
     // It cannot be had, for this reason of the system's.
     Unnamed(i32),
 }
 
-// What is asked for where the words are so many arguments from this one on, and the program takes so many.
+// What is asked for where the words are so many arguments from this one on, and the program takes so many up to M.
 pub(crate) fn words_ask(at: usize, count: usize, taken: usize, name: &mut [u8]) -> Asked {
     if count == 1 {
         return Asked::One;
     }
-    if count != taken {
+    if count < taken {
+        return Asked::Misuse;
+    }
+    let further = count - taken;
+    if FURTHER < further {
         return Asked::Misuse;
     }
     if LAST < at {
@@ -43,7 +50,7 @@ pub(crate) fn words_ask(at: usize, count: usize, taken: usize, name: &mut [u8]) 
     if wrong != 0 {
         return Asked::Unnamed(wrong);
     }
-    Asked::Named(n)
+    Asked::Named(n, further)
 }
 
 // The argument after the first one.
@@ -88,8 +95,8 @@ pub(crate) fn is_help(at: usize) -> bool {
     asks_for_help(first(&room, n))
 }
 
-// The agreement of the three arguments from this one on.
-pub(crate) fn agreement(at: usize) -> Agreed
+// The agreement of the three arguments from this one on, and of so many further ones.
+pub(crate) fn agreement(at: usize, further: usize) -> Agreed
     requires { ⌜ at ≤ 65540 ⌝ }
 {
     let mut algorithm = [0u8; 65];
@@ -102,10 +109,13 @@ pub(crate) fn agreement(at: usize) -> Agreed
         first(&algorithm, algorithm_length),
         first(&padding, padding_length),
         first(&m, m_length),
+        at + 3,
+        further,
     )
 }
 
-fn agreement_of(algorithm: &[u8], padding: &[u8], m: &[u8]) -> Agreed {
+// The agreement of three words, and of so many arguments from this one on: none, or the word master.
+fn agreement_of(algorithm: &[u8], padding: &[u8], m: &[u8], at: usize, further: usize) -> Agreed {
     if is_no_number(b"the algorithm", algorithm) {
         return Agreed::Unread;
     }
@@ -115,10 +125,15 @@ fn agreement_of(algorithm: &[u8], padding: &[u8], m: &[u8]) -> Agreed {
     if is_no_number(b"M", m) {
         return Agreed::Unread;
     }
-    Agreed::Numbers(settings::Agreement {
+    let master = further != 0;
+    if master && is_no_master(at) {
+        return Agreed::Unread;
+    }
+    Agreed::Words(settings::Agreement {
         algorithm: numbers::number(algorithm),
         padding: numbers::number(padding),
         m: numbers::number(m),
+        master,
     })
 }
 
@@ -131,4 +146,23 @@ pub(crate) fn is_no_number(what: &[u8], word: &[u8]) -> bool {
         return true;
     }
     false
+}
+
+// Whether an argument is not the word master; if so, it is said.
+fn is_no_master(at: usize) -> bool {
+    let mut room = [0u8; 7];
+    let n = word(at, &mut room);
+    if check::same(first(&room, n), b"master") {
+        return false;
+    }
+    print(b"error: the word after M is not master\n");
+    true
+}
+
+// What a program's usage says of the word master.
+pub(crate) fn print_master_usage() {
+    print(
+        b"    the same where a master key was agreed: the keys are the master alone (algorithms 2\n",
+    );
+    print(b"    and 6), or K and then the master (algorithm 4)\n");
 }

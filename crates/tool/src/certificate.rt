@@ -1,9 +1,10 @@
 // The program certcheck, which checks a certificate of analysis, however long, under its tag: it reads the keys from standard input and
 // the certificate from a file, once and in pieces.
 //
-//     certcheck FILE TAG ALGORITHM PADDING M    accepted; or rejected, where the tag is another; each with the bits and the cipher
-//                                               calls; or refused, or error, as slipcheck
-//     certcheck -h                              how it is used; also --help
+//     certcheck FILE TAG ALGORITHM PADDING M           accepted; or rejected, where the tag is another; each with the bits and the
+//                                                      cipher calls; or refused, or error, as slipcheck
+//     certcheck FILE TAG ALGORITHM PADDING M master    the same, where a master key was agreed
+//     certcheck -h                                     how it is used; also --help
 //
 // The arguments are looked at first, in their order, then the keys, then the library's answer to the start of the check, then the file
 // (certificate_file.rt). The program's own buffers, with those of the calls it makes on the system, stay below 64 KiB even if they were
@@ -20,9 +21,10 @@
 //       20   a number's digits
 //       17   the tag
 //        7   a word alone
+//        7   the word master
 //        1   for a read of no bytes
 //    -----
-//    45619   bytes in all
+//    45626   bytes in all
 ghost use Prim.Native.Nat.{_≤_};
 use crate::arguments;
 use crate::certificate_file;
@@ -44,7 +46,9 @@ pub fn answer_certificate(typed: i32, at: usize, count: usize) {
         Asked::One => answer_one(at),
         Asked::Misuse => print_misuse(),
         Asked::Unnamed(reason) => words::print_failure(b"the file cannot be opened", reason),
-        Asked::Named(n) => answer_four(typed, first(&name, n), arguments::second(at)),
+        Asked::Named(n, further) => {
+            answer_words(typed, first(&name, n), arguments::second(at), further)
+        }
     }
 }
 
@@ -61,6 +65,8 @@ fn print_usage() {
         b"    as in: certcheck certificate D34E754F50B55B4C 5 4 64 (the three numbers as agreed with\n",
     );
     print(b"    the supplier and kept on file, never as the certificate names them)\n");
+    print(b"certcheck FILE TAG ALGORITHM PADDING M master\n");
+    arguments::print_master_usage();
 }
 
 fn print_misuse() {
@@ -77,9 +83,9 @@ fn answer_one(at: usize) {
     print_misuse();
 }
 
-// The words after the file's name. Of the tag 34 digits are enough: a tag has 16 bytes at most, and for 17 the library answers as it
-// does for any longer one.
-fn answer_four(typed: i32, name: &[u8], at: usize)
+// The words after the file's name, of which so many come after M. Of the tag 34 digits are enough: a tag has 16 bytes at most, and for
+// 17 the library answers as it does for any longer one.
+fn answer_words(typed: i32, name: &[u8], at: usize, further: usize)
     requires { ⌜ at ≤ 65537 ⌝ }
 {
     let mut digits = [0u8; 34];
@@ -87,7 +93,13 @@ fn answer_four(typed: i32, name: &[u8], at: usize)
     let mut room = [0u8; 17];
     let tag = tag_of(first(&digits, n), &mut room);
     match tag {
-        typed_keys::Typed::Bytes(count) => answer_agreed(typed, name, first(&room, count), at + 1),
+        typed_keys::Typed::Bytes(count) => answer_agreed(
+            typed,
+            name,
+            first(&room, count),
+            at + 1,
+            further,
+        ),
         _ => print_no_tag(tag),
     }
 }
@@ -108,12 +120,12 @@ fn print_no_tag(tag: typed_keys::Typed) {
     print_usage();
 }
 
-// What was agreed is the three arguments from this one on.
-fn answer_agreed(typed: i32, name: &[u8], tag: &[u8], at: usize)
+// What was agreed is the three arguments from this one on and so many further ones.
+fn answer_agreed(typed: i32, name: &[u8], tag: &[u8], at: usize, further: usize)
     requires { ⌜ at ≤ 65540 ⌝ }
 {
-    match arguments::agreement(at) {
-        Agreed::Numbers(agreement) => check_typed(typed, name, tag, agreement),
+    match arguments::agreement(at, further) {
+        Agreed::Words(agreement) => check_typed(typed, name, tag, agreement),
         Agreed::Unread => print_usage(),
     }
 }

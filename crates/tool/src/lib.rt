@@ -2,10 +2,11 @@
 // standard output, since a program here has no exit status. slipcheck reads the keys from standard input and one slip from a file,
 // which may be a pipe, and says in words whether the slip is to be believed under what was agreed with its supplier:
 //
-//     slipcheck FILE ALGORITHM PADDING M    accepted and what the slip says; or refused, the number and its meaning; or error and
-//                                           what is wrong
-//     slipcheck vectors                     the tags that the standard prints, made anew and compared
-//     slipcheck -h                          how it is used; also --help
+//     slipcheck FILE ALGORITHM PADDING M           accepted and what the slip says; or refused, the number and its meaning; or
+//                                                  error and what is wrong
+//     slipcheck FILE ALGORITHM PADDING M master    the same, where a master key was agreed
+//     slipcheck vectors                            the tags that the standard prints, made anew and compared
+//     slipcheck -h                                 how it is used; also --help
 //
 // The arguments are looked at first, in their order, then the keys, then the file. Its own buffers, with those of the calls it makes on
 // the system, would stay far below 64 KiB even if they were all in use together (slipprint's stand in printing.rt, certcheck's in
@@ -14,7 +15,7 @@
 //     4096   the file's name
 //     4096   its copy in os::open_read
 //     4096   io::write_all, where the system takes only a part of what is written
-//      880   the vectors: their rows 792, keys 32, text 32, a tag 8 and its digits 16
+//      896   the vectors: their rows 792, keys 32, a master 16, text 32, a tag 8 and its digits 16
 //      256   a chunk of the typed keys
 //      256   a read of the file
 //      195   the algorithm, the padding and M, 65 each
@@ -22,8 +23,9 @@
 //       33   the key bytes
 //       20   a number's digits
 //        8   a word alone
+//        7   the word master
 //    -----
-//    14096   bytes in all
+//    14119   bytes in all
 mod arguments;
 mod certificate;
 mod certificate_file;
@@ -55,7 +57,9 @@ pub fn answer(typed: i32, at: usize, count: usize) {
         Asked::One => answer_one(at),
         Asked::Misuse => print_misuse(),
         Asked::Unnamed(reason) => words::print_failure(b"the file cannot be opened", reason),
-        Asked::Named(n) => answer_named(typed, first(&name, n), arguments::second(at)),
+        Asked::Named(n, further) => {
+            answer_named(typed, first(&name, n), arguments::second(at), further)
+        }
     }
 }
 
@@ -67,6 +71,8 @@ fn print_usage() {
         b"    as in: slipcheck slip 5 4 64 (the three numbers as agreed with the supplier and kept\n",
     );
     print(b"    on file, never as the slip names them)\n");
+    print(b"slipcheck FILE ALGORITHM PADDING M master\n");
+    arguments::print_master_usage();
     print(b"slipcheck vectors\n");
     print(b"    runs the published vectors\n");
 }
@@ -92,14 +98,14 @@ fn answer_one(at: usize) {
     print_misuse();
 }
 
-// What slipcheck says of the file of this name, where what was agreed is the three arguments from this one on.
-pub fn answer_named(typed: i32, name: &[u8], at: usize) {
+// What slipcheck says of the file of this name, where what was agreed is the three arguments from this one on and so many further ones.
+pub fn answer_named(typed: i32, name: &[u8], at: usize, further: usize) {
     if arguments::LAST + 1 < at {
         print_misuse();
         return;
     }
-    match arguments::agreement(at) {
-        Agreed::Numbers(agreement) => check_file(typed, agreement, name),
+    match arguments::agreement(at, further) {
+        Agreed::Words(agreement) => check_file(typed, agreement, name),
         Agreed::Unread => print_usage(),
     }
 }

@@ -1,8 +1,10 @@
 // The program slipprint, which prints a slip of our own: it reads the keys from standard input, seals what its arguments say, and writes
 // the slip into a new file. It never writes over a file, for a printed slip is evidence.
 //
-//     slipprint FILE DATE LOT AMOUNT ALGORITHM PADDING M    printed and what the slip says; or refused, or error, as slipcheck
-//     slipprint -h                                          how it is used; also --help
+//     slipprint FILE DATE LOT AMOUNT ALGORITHM PADDING M           printed and what the slip says; or refused, or error, as
+//                                                                  slipcheck
+//     slipprint FILE DATE LOT AMOUNT ALGORITHM PADDING M master    the same, where a master key was agreed
+//     slipprint -h                                                 how it is used; also --help
 //
 // The arguments are looked at first, in their order, then the keys, then the library's answer, then the file: so a refusal leaves no
 // new file, nor does an error, but where the system takes no removal either, and then it is said. The program's own buffers, with those
@@ -19,8 +21,9 @@
 //       20   a number's digits
 //       11   the date
 //        7   a word alone
+//        7   the word master
 //    -----
-//    12983   bytes in all
+//    12990   bytes in all
 ghost use Prim.Native.Nat.{_≤_};
 use crate::arguments;
 use crate::first;
@@ -43,7 +46,9 @@ pub fn answer_print(typed: i32, at: usize, count: usize) {
         Asked::One => answer_one(at),
         Asked::Misuse => print_misuse(),
         Asked::Unnamed(reason) => words::print_failure(b"the file cannot be made", reason),
-        Asked::Named(n) => answer_six(typed, first(&name, n), arguments::second(at)),
+        Asked::Named(n, further) => {
+            answer_words(typed, first(&name, n), arguments::second(at), further)
+        }
     }
 }
 
@@ -53,6 +58,8 @@ fn print_usage() {
     print(
         b"    as in: slipprint slip 2026-11-04 A7 500 5 4 64 (500 microlitres, a tag of 64 bits)\n",
     );
+    print(b"slipprint FILE DATE LOT AMOUNT ALGORITHM PADDING M master\n");
+    arguments::print_master_usage();
 }
 
 fn print_misuse() {
@@ -69,8 +76,8 @@ fn answer_one(at: usize) {
     print_misuse();
 }
 
-// The words after the file's name.
-fn answer_six(typed: i32, name: &[u8], at: usize)
+// The words after the file's name, of which so many come after M.
+fn answer_words(typed: i32, name: &[u8], at: usize, further: usize)
     requires { ⌜ at ≤ 65537 ⌝ }
 {
     let mut date = [0u8; 11];
@@ -86,19 +93,29 @@ fn answer_six(typed: i32, name: &[u8], at: usize)
         first(&lot, lot_length),
         first(&amount, amount_length),
         at + 3,
+        further,
     );
 }
 
-// The words, of which date and numbers are judged for how they are written; what was agreed is the three arguments from this one on.
-fn print_slip(typed: i32, name: &[u8], date: &[u8], lot: &[u8], amount: &[u8], at: usize)
+// The words, of which date and numbers are judged for how they are written; what was agreed is the three arguments from this one on
+// and so many further ones.
+fn print_slip(
+    typed: i32,
+    name: &[u8],
+    date: &[u8],
+    lot: &[u8],
+    amount: &[u8],
+    at: usize,
+    further: usize,
+)
     requires { ⌜ at ≤ 65540 ⌝ }
 {
     if is_miswritten(name, date, amount) {
         print_usage();
         return;
     }
-    match arguments::agreement(at) {
-        Agreed::Numbers(agreed) => print_typed(
+    match arguments::agreement(at, further) {
+        Agreed::Words(agreed) => print_typed(
             typed,
             name,
             agreed,

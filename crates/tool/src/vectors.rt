@@ -1,6 +1,7 @@
 // The 36 tags that annex A of GB/T 15852.1 prints, made anew and compared: what a person runs first on a new machine. The printed
 // tags have 64 bits. Algorithm 7 gives 63 at most, so its rows have 63 bits of the printed tag and a zero: of 16E02904EFB765B7 the
-// first ones, where the text fills its blocks (data 1), of 846FA2A5D83445A9 the last ones, where it does not (data 2).
+// first ones, where the text fills its blocks (data 1), of 846FA2A5D83445A9 the last ones, where it does not (data 2). The tags of A.7,
+// which are algorithm 6's, must be right under the master there too, with two cipher calls more.
 ghost use Prim.Native.Nat.{_≤_};
 use crate::first;
 use crate::hex;
@@ -61,6 +62,9 @@ const KEYS_OF_A7: [u8; 32] = *b"\
     \x4e\x59\x5b\xf0\x3f\x23\xbd\x10\x32\x9b\xaf\x56\x98\xe8\x98\xec\
     \xb3\x13\x6c\x04\x4e\x95\x48\x2d\x4f\x65\x2e\x69\x4f\x27\x41\xcd";
 
+// K* of A.7, the master that these two are derived from.
+const MASTER_OF_A7: [u8; 16] = *b"\x01\x23\x45\x67\x89\xab\xcd\xef\xfe\xdc\xba\x98\x76\x54\x32\x10";
+
 // Data 1; data 2 is its first 25 bytes.
 const TEXT: [u8; 32] = *b"This is the test message for mac";
 
@@ -90,6 +94,7 @@ fn run_row(row: &[u8]) -> bool {
         algorithm,
         padding: value(row, 2),
         m: tag_bits(algorithm),
+        master: false,
     };
     let made = hex::digits(tag_of(agreed, value(row, 4)));
     let right = check::same(&made, part(row, 6, 16));
@@ -103,20 +108,46 @@ fn tag_of(agreed: settings::Agreement, data: usize) -> [u8; 8] {
     let size = size_of(data);
     made(
         agreed,
-        first(&keys, keys::bytes_of(agreed.algorithm)),
+        first(&keys, keys::bytes_of(agreed.master, agreed.algorithm)),
         first(&text, size),
         8 * size,
     )
 }
 
-// The tag of a text that is made and found right, else zeros.
+// The tag of a text that is made and found right, under a master too where there is one, else zeros.
 fn made(agreed: settings::Agreement, keys: &[u8], text: &[u8], bits: usize) -> [u8; 8] {
     let mut made = [0u8; 8];
     tag::make(agreed, keys, text, bits, &mut made);
-    if let settings::Outcome::Yes(_) = tag::check(agreed, keys, text, bits, &made) {
-        return made;
+    if let settings::Outcome::Yes(calls) = tag::check(agreed, keys, text, bits, &made) {
+        if is_right_under_master(agreed, text, bits, &made, calls) {
+            return made;
+        }
     }
     [0u8; 8]
+}
+
+// Whether a tag of A.7 is right under the master there too, with two calls more than these. The others have no master, so they pass.
+fn is_right_under_master(
+    agreed: settings::Agreement,
+    text: &[u8],
+    bits: usize,
+    tag: &[u8],
+    calls: usize,
+) -> bool {
+    if agreed.algorithm != 6 {
+        return true;
+    }
+    let master = MASTER_OF_A7;
+    let derived = settings::Agreement {
+        algorithm: agreed.algorithm,
+        padding: agreed.padding,
+        m: agreed.m,
+        master: true,
+    };
+    if let settings::Outcome::Yes(more) = tag::check(derived, &master, text, bits, tag) {
+        return calls <= more && more - calls == 2;
+    }
+    false
 }
 
 fn keys_of(algorithm: usize) -> [u8; 32] {

@@ -60,7 +60,7 @@ fn print_meaning_of_settings(number: usize) {
         1 => print(b"the algorithm is not one of 1 to 8"),
         2 => print(b"the padding does not belong to the algorithm"),
         3 => print(b"the tag's number of bits is not allowed for the algorithm"),
-        4 => print(b"the keys have the wrong length for the algorithm"),
+        4 => print(b"the keys have the wrong length for the algorithm, or it takes no master"),
         5 => print(b"the first key is the same as another and must differ"),
         6 => print(b"the second key is the same as the third and must differ"),
         _ => print_no_meaning(),

@@ -13,7 +13,7 @@ use reference::session::Record;
 use reference::{hex, unhex, Agreement, Answer};
 
 const MOST: usize = (LIMIT / 8) as usize;
-const PLAIN: Agreement = Agreement { algorithm: 1, padding: 1, m: 128 };
+const PLAIN: Agreement = Agreement { algorithm: 1, padding: 1, m: 128, master: false };
 
 /// Algorithm 1, padding 1, zeros.
 pub fn known(r: &mut Random, run: &mut Run) {
@@ -52,7 +52,7 @@ pub fn known(r: &mut Random, run: &mut Run) {
 /// Any bits, under one algorithm and padding.
 pub fn case(r: &mut Random, run: &mut Run, [algorithm, padding]: [u64; 2]) {
     let mut s = Settings::sound(r, algorithm);
-    s.agreement = Agreement { algorithm, padding, m: m_limit(algorithm) };
+    s.agreement = Agreement { padding, m: m_limit(algorithm), ..s.agreement };
     let mut bytes = vec![0; MOST + 1];
     r.fill(&mut bytes);
     let size = s.tag_size();

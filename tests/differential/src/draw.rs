@@ -1,9 +1,10 @@
-//! What the cases are drawn from: settings with independent faults, and messages near the borders of blocks and bytes.
-//! Each fault comes about once in sixteen, so that most cases have none, and some several.
+//! What the cases are drawn from: settings with independent faults, with a master or without, and messages near the borders of
+//! blocks and bytes. Each fault comes about once in sixteen, so that most cases have none, and some several.
 
 use reference::call::LIMIT;
 use reference::cases::Random;
-use reference::mac::{m_limit, two_keys};
+use reference::derive::{derived, key_bytes};
+use reference::mac::{key_at, m_limit, two_keys};
 use reference::padding::bytes_for;
 use reference::Agreement;
 
@@ -47,8 +48,9 @@ pub fn far_block(r: &mut Random) -> u64 {
     }
 }
 
-/// An agreement of which one number is another: by one, in a bit of the lowest byte, in those above it alone, or any other.
-pub fn another(r: &mut Random, Agreement { algorithm, padding, m }: Agreement) -> Agreement {
+/// An agreement of which one number is another: by one, in a bit of the lowest byte, in those above it alone, or any other. Now and
+/// then the master is another too.
+pub fn another(r: &mut Random, Agreement { algorithm, padding, m, master }: Agreement) -> Agreement {
     let mut numbers = [algorithm, padding, m];
     let number = &mut numbers[r.below(3) as usize];
     *number = match r.below(5) {
@@ -59,7 +61,20 @@ pub fn another(r: &mut Random, Agreement { algorithm, padding, m }: Agreement) -
         _ => number.wrapping_add((r.draw() >> r.below(64)).max(1)),
     };
     let [algorithm, padding, m] = numbers;
-    Agreement { algorithm, padding, m }
+    Agreement { algorithm, padding, m, master: master != once_in(r, 4) }
+}
+
+fn takes_master(algorithm: u64) -> bool {
+    matches!(algorithm, 2 | 4 | 6)
+}
+
+/// The first key becomes one that is derived from the second, or now and then one near it.
+pub fn as_derived(r: &mut Random, keys: &mut [u8]) {
+    let made = derived(&key_at(keys, 1));
+    keys[..16].copy_from_slice(&made[r.below(2) as usize]);
+    if once_in(r, 3) {
+        keys[r.below(16) as usize] ^= 1 << r.below(8);
+    }
 }
 
 /// An agreement and keys for it.
@@ -89,9 +104,12 @@ impl Settings {
             4 | 5 => limit,
             _ => 1 + r.below(limit),
         };
-        let wanted = if two_keys(algorithm) { 32 } else { 16 };
+        let master = once_in(r, if takes_master(algorithm) { 2 } else { 12 });
+        let agreement = Agreement { algorithm, padding, m, master };
+        // Where no number of bytes is right, mostly that which is so without a master.
+        let wanted = key_bytes(agreement).unwrap_or(if two_keys(algorithm) { 32 } else { 16 });
         let count = match r.below(40) {
-            0 => r.below(49),
+            0 => r.below(49) as usize,
             1 => wanted - 1,
             2 => wanted + 1,
             3 => 48 - wanted,
@@ -108,17 +126,20 @@ impl Settings {
                 2 => two[r.below(16) as usize] ^= 1 << r.below(8),
                 _ => (),
             }
+        } else if once_in(r, if algorithm == 4 { 2 } else { 16 }) {
+            as_derived(r, &mut keys);
         }
-        keys.truncate(count as usize);
-        Settings { agreement: Agreement { algorithm, padding, m }, keys }
+        keys.truncate(count);
+        Settings { agreement, keys }
     }
 
-    /// Settings that pass, for an algorithm of 1 to 8.
+    /// Settings that pass, for an algorithm of 1 to 8; every second time under a master where it takes one.
     pub fn sound(r: &mut Random, algorithm: u64) -> Settings {
-        let mut keys = vec![0; if two_keys(algorithm) { 32 } else { 16 }];
-        r.fill(&mut keys);
         let (padding, m) = (fitting(r, algorithm), 1 + r.below(m_limit(algorithm)));
-        Settings { agreement: Agreement { algorithm, padding, m }, keys }
+        let agreement = Agreement { algorithm, padding, m, master: takes_master(algorithm) && once_in(r, 2) };
+        let mut keys = vec![0; key_bytes(agreement).expect("a number of bytes that is right")];
+        r.fill(&mut keys);
+        Settings { agreement, keys }
     }
 
     /// ⌈m/8⌉, or 16 where m is no size.

@@ -1,7 +1,8 @@
 //! differential [SEED [COUNT]]: compares the proved library with the reference on COUNT pseudo-random cases, half of them one call
 //! (a tag made, a tag checked, a lost block restored), a quarter sessions that make or check a tag, a quarter slips, and on a
 //! quarter as many again, slips that are written; then on one slip of each algorithm and padding cut and changed everywhere, on the
-//! longest message, and on slips written with every m and at the borders of every field. Every slip is gathered from reads too.
+//! longest message, and on slips written with every m and at the borders of every field. Every slip is gathered from reads too. Of the
+//! algorithms that take a master, every second agreement has one; of the others some, which are refused.
 //! differential SEED KIND INDEX runs one case again (call, session, slip, write, every, border, rooms, values).
 //! Ends with status 1 at the first difference, and where, in 10,000 cases or more, an answer that can arise came too seldom.
 
@@ -19,18 +20,19 @@ const READ: &[&str] = &["0", "20", "21", "22", "23", "24", "25", "1", "2", "3", 
 
 /// The answers that can arise, of each function. A message of which a block was restored is checked. A slip that was written is
 /// read back, one that was accepted written again, and one that was read is read under another agreement than it names; both are
-/// gathered from reads too. "11 other" is the answer to a finish of the other purpose, and "11 purpose" to a record that counts as
-/// closed for its purpose alone.
-const ANSWERS: [(&str, &[&str]); 17] = [
+/// gathered from reads too. "11 other" is the answer to a finish of the other purpose, and "11 purpose" and "11 master" to a record
+/// that counts as closed for its purpose or its master alone; "11 open" to one that would be open but for the number of its master.
+const ANSWERS: [(&str, &[&str]); 18] = [
     ("make", &["0", "1", "2", "3", "4", "5", "7", "8", "9", "10"]),
     ("check", &["yes", "no", "1", "2", "3", "4", "5", "7", "8", "9", "10"]),
     ("restore", &["0", "1", "2", "3", "4", "5", "7", "8", "9", "10", "41"]),
     ("restored", &["yes"]),
     ("start", &["0", "1", "2", "3", "4", "5", "8"]),
     ("start_check", &["0", "1", "2", "3", "4", "5", "8", "10"]),
-    ("piece", &["0", "11", "11 purpose", "7", "8", "12"]),
-    ("finish", &["0", "11", "11 other", "11 purpose", "12", "9", "10"]),
-    ("finish_check", &["yes", "no", "11", "11 other", "11 purpose", "12", "9"]),
+    ("piece", &["0", "11", "11 purpose", "11 master", "7", "8", "12"]),
+    ("finish", &["0", "11", "11 other", "11 purpose", "11 master", "12", "9", "10"]),
+    ("finish_check", &["yes", "no", "11", "11 other", "11 purpose", "11 master", "12", "9"]),
+    ("odd master", &["11 open"]),
     ("read", READ),
     ("other", &["20", "21", "22", "23", "24", "25"]),
     ("write", &["0", "22", "23", "1", "2", "3", "4", "5", "10"]),
@@ -40,6 +42,26 @@ const ANSWERS: [(&str, &[&str]); 17] = [
     ("gathered", READ),
     // Of the forged records few hold a whole slip, and so 1, 2, 3 and 5 are too few to be asked for.
     ("forged", &["0", "20", "21", "22", "23", "24", "25", "4", "10", "30"]),
+];
+
+/// Of these, the answers under a master, but for those that are too few to be asked for.
+const MASTERS: [(&str, &[&str]); 16] = [
+    ("make", &["0", "1", "2", "3", "4", "5", "7", "8", "9", "10"]),
+    ("check", &["yes", "no", "1", "2", "3", "4", "5", "7", "8", "9", "10"]),
+    ("restore", &["0", "1", "2", "3", "4", "5", "7", "9", "10", "41"]),
+    ("restored", &["yes"]),
+    ("start", &["0", "2", "3", "4", "5"]),
+    ("start_check", &["0", "2", "3", "4", "5", "10"]),
+    ("piece", &["0", "11", "11 purpose", "11 master", "7", "8"]),
+    ("finish", &["0", "11", "11 other", "11 purpose", "11 master", "12", "9", "10"]),
+    ("finish_check", &["yes", "no", "11", "11 other", "11 purpose", "11 master", "12", "9"]),
+    ("odd master", &["11 open"]),
+    ("read", &["0", "20", "21", "22", "23", "24", "25", "4", "30"]),
+    ("write", &["0", "22", "23", "2", "3", "4", "5", "10"]),
+    ("back", &["0"]),
+    ("again", &["0"]),
+    ("gathered", &["0", "20", "21", "22", "23", "24", "25", "4", "30"]),
+    ("forged", &["0", "20", "21", "22", "23", "24", "25", "4"]),
 ];
 
 /// How a session ends that is compared with one call.
@@ -75,14 +97,20 @@ fn case(run: &mut Run, seed: u64, kind: usize, index: u64) {
     }
 }
 
-/// The answers that make up a thousandth of their function's calls or less. It is asked after the pseudo-random cases, for those that
-/// go through every byte, every m or every day, or stand at the border, come out the same whatever the seed.
+/// The answers that make up a thousandth of their function's calls or less, or under a master a third of that. It is asked after the
+/// pseudo-random cases, for those that go through every byte, every m or every day, or stand at the border, come out the same
+/// whatever the seed.
 fn too_seldom(run: &Run) -> Vec<String> {
     let mut seldom = Vec::new();
     for (function, answers) in ANSWERS {
         let all = run.calls_of(function);
         let few = answers.iter().filter(|answer| run.often(function, answer) <= all / 1000);
         seldom.extend(few.map(|answer| format!("{function} {answer}")));
+    }
+    for (function, answers) in MASTERS {
+        let all = run.calls_of(function);
+        let few = answers.iter().filter(|answer| run.often_under_master(function, answer) <= all / 3000);
+        seldom.extend(few.map(|answer| format!("{function} {answer} under a master")));
     }
     let few = ENDS.iter().filter(|end| like_one_call(run, end) <= run.calls_of("start") / 100);
     seldom.extend(few.map(|end| format!("sessions like one call: {end}")));
@@ -113,6 +141,12 @@ fn whole(run: &mut Run, seed: u64, count: u64) -> bool {
     }
     for (function, answers) in ANSWERS {
         let counts = answers.iter().map(|answer| format!("  {answer}: {}", run.often(function, answer)));
+        println!("{function:12}{}", counts.collect::<String>());
+    }
+    println!("of these under a master:");
+    for (function, answers) in MASTERS {
+        let counts =
+            answers.iter().map(|answer| format!("  {answer}: {}", run.often_under_master(function, answer)));
         println!("{function:12}{}", counts.collect::<String>());
     }
     let ends = ENDS.map(|end| format!("{end} {}", like_one_call(run, end)));

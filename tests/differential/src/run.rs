@@ -16,12 +16,15 @@ pub struct Run {
     /// The words that repeat the case at hand.
     pub case: String,
     /// Of each function, how often each number was answered; a checked "yes" and "no" stand apart, and so do a finish of the other
-    /// purpose ("11 other") and a record that counts as closed for its purpose alone ("11 purpose"), and the slips that are read
-    /// because they were written ("back"), written because they were read ("again"), and read under something else than they name
-    /// ("other"), and records that are read ("gathered") or were forged ("forged"), and messages that are checked because a block
-    /// of them was restored ("restored"). Of a record that is handed back ("gather"), whether it is empty, holds a part of what
-    /// fits, or is full.
+    /// purpose ("11 other") and a record that counts as closed for its purpose ("11 purpose") or its master ("11 master") alone, and
+    /// the slips that are read because they were written ("back"), written because they were read ("again"), and read under
+    /// something else than they name ("other"), and records that are read ("gathered") or were forged ("forged"), and messages that
+    /// are checked because a block of them was restored ("restored"). Of a record that is handed back ("gather"), whether it is
+    /// empty, holds a part of what fits, or is full. Of one under a number that no master has ("odd master"), whether it was open
+    /// under its own.
     pub answers: BTreeMap<&'static str, BTreeMap<String, u64>>,
+    /// The same of the calls under a master, which are among those.
+    pub masters: BTreeMap<&'static str, BTreeMap<String, u64>>,
     /// Sessions whose end and calls were those of one call: a tag made, or yes or no said.
     pub joined: BTreeMap<&'static str, u64>,
 }
@@ -36,8 +39,8 @@ pub fn word(bytes: &[u8]) -> String {
 }
 
 /// An agreement as the reference's command lines have it.
-pub fn words(Agreement { algorithm, padding, m }: Agreement) -> String {
-    format!("{algorithm} {padding} {m}")
+pub fn words(Agreement { algorithm, padding, m, master }: Agreement) -> String {
+    format!("{algorithm} {padding} {m}{}", if master { "*" } else { "" })
 }
 
 /// A record as the reference's commands `forge` and `aim` take it.
@@ -57,10 +60,14 @@ fn judged(answer: Answer) -> String {
     }
 }
 
-/// The number, but where a record counts as closed for its purpose alone "11 purpose".
+/// The number, but where a record counts as closed for its purpose or its master alone "11 purpose" or "11 master".
 fn told(record: &Record, answer: Answer) -> String {
     if record.purpose != MAKING && !record.is_open() && (Record { purpose: MAKING, ..*record }).is_open() {
         return "11 purpose".to_string();
+    }
+    let without = Agreement { master: false, ..record.agreement };
+    if record.agreement.master && !record.is_open() && (Record { agreement: without, ..*record }).is_open() {
+        return "11 master".to_string();
     }
     answer.number.to_string()
 }
@@ -107,7 +114,8 @@ impl Room {
 
 impl Run {
     pub fn new() -> Run {
-        Run { case: String::new(), answers: BTreeMap::new(), joined: BTreeMap::new() }
+        let case = String::new();
+        Run { case, answers: BTreeMap::new(), masters: BTreeMap::new(), joined: BTreeMap::new() }
     }
 
     pub fn fail(&self, what: &str) -> ! {
@@ -122,7 +130,10 @@ impl Run {
         }
     }
 
-    fn count(&mut self, function: &'static str, answer: String) {
+    fn count(&mut self, function: &'static str, master: bool, answer: String) {
+        if master {
+            *self.masters.entry(function).or_default().entry(answer.clone()).or_default() += 1;
+        }
         *self.answers.entry(function).or_default().entry(answer).or_default() += 1;
     }
 
@@ -140,6 +151,11 @@ impl Run {
         self.answers.get(function).and_then(|answers| answers.get(answer)).copied().unwrap_or(0)
     }
 
+    /// How often it did so under a master.
+    pub fn often_under_master(&self, function: &str, answer: &str) -> u64 {
+        self.masters.get(function).and_then(|answers| answers.get(answer)).copied().unwrap_or(0)
+    }
+
     pub fn make(
         &mut self,
         agreement: Agreement,
@@ -155,7 +171,7 @@ impl Run {
         let line = || format!("make {} {} {} {bits} {size}", words(agreement), word(keys), word(message));
         self.same(&got, &want, line);
         self.same(&ours.bytes, &theirs.bytes, || format!("{} (room)", line()));
-        self.count("make", want.number.to_string());
+        self.count("make", agreement.master, want.number.to_string());
         want
     }
 
@@ -196,7 +212,7 @@ impl Run {
         let line =
             || format!("check {} {} {} {bits} {}", words(agreement), word(keys), word(message), word(tag));
         self.same(&got, &want, line);
-        self.count(function, judged(want));
+        self.count(function, agreement.master, judged(want));
         want
     }
 
@@ -219,7 +235,7 @@ impl Run {
         };
         self.same(&got, &want, line);
         self.same(&ours.bytes, &theirs.bytes, || format!("{} (message)", line()));
-        self.count("restore", want.to_string());
+        self.count("restore", agreement.master, want.to_string());
         (want, theirs.inner().to_vec())
     }
 
@@ -227,7 +243,7 @@ impl Run {
         let got = library::start(agreement, keys, declared);
         let want = session::start(agreement, keys, declared);
         self.same(&got, &want, || format!("start {} {} {declared}", words(agreement), word(keys)));
-        self.count("start", want.1.number.to_string());
+        self.count("start", agreement.master, want.1.number.to_string());
         want
     }
 
@@ -242,7 +258,7 @@ impl Run {
         let want = session::start_check(agreement, keys, declared, tag);
         let line = || format!("start_check {} {} {declared} {}", words(agreement), word(keys), word(tag));
         self.same(&got, &want, line);
-        self.count("start_check", want.1.number.to_string());
+        self.count("start_check", agreement.master, want.1.number.to_string());
         want
     }
 
@@ -250,7 +266,7 @@ impl Run {
         let got = library::piece(record, bytes, bits);
         let want = session::piece(*record, bytes, bits);
         self.same(&got, &want, || format!("{}; piece {} {bits}", forge(record), word(bytes)));
-        self.count("piece", told(record, want.1));
+        self.count("piece", record.agreement.master, told(record, want.1));
         want
     }
 
@@ -263,7 +279,7 @@ impl Run {
         let line = || format!("{}; finish {size}", forge(record));
         self.same(&got, &want, line);
         self.same(&ours.bytes, &theirs.bytes, || format!("{} (room)", line()));
-        self.count("finish", ended(record, want.1));
+        self.count("finish", record.agreement.master, ended(record, want.1));
         (want.0, want.1, theirs.inner().to_vec())
     }
 
@@ -272,8 +288,16 @@ impl Run {
         let want = session::finish_check(*record);
         self.same(&got, &want, || format!("{}; finish_check", forge(record)));
         let told = if want.1.number == 0 { judged(want.1) } else { ended(record, want.1) };
-        self.count("finish_check", told);
+        self.count("finish_check", record.agreement.master, told);
         want
+    }
+
+    /// A record under a number for its master that is neither 0 nor 1, which the reference has no record for: each call refuses it.
+    pub fn odd_master(&mut self, record: &Record, master: u64) {
+        let refused = library::refuses_master(record, master);
+        self.same(&refused, &true, || format!("{}, with {master} for its master", forge(record)));
+        let told = if record.is_open() { "11 open" } else { "11" };
+        self.count("odd master", record.agreement.master, told.to_string());
     }
 
     /// A session whose end was compared with one call.
@@ -299,7 +323,7 @@ impl Run {
         let got = library::read(agreement, keys, slip);
         let want = slip::read(agreement, keys, slip);
         self.same(&got, &want, || format!("slip {} {} {}", words(agreement), word(keys), word(slip)));
-        self.count(function, want.number.to_string());
+        self.count(function, agreement.master, want.number.to_string());
         want
     }
 
@@ -314,7 +338,7 @@ impl Run {
             MOST => "full",
             _ => "part",
         };
-        self.count("gather", told.to_string());
+        self.count("gather", false, told.to_string());
         want
     }
 
@@ -340,7 +364,7 @@ impl Run {
         let want = slip::read(agreement, keys, came);
         let line = || format!("record {} {} {} -", words(agreement), word(keys), held(record));
         self.same(&got, &want, line);
-        self.count(function, want.number.to_string());
+        self.count(function, agreement.master, want.number.to_string());
     }
 
     /// The answer, and the bytes of the room.
@@ -384,7 +408,7 @@ impl Run {
         };
         self.same(&got, &want, line);
         self.same(&ours.bytes, &theirs.bytes, || format!("{} (room)", line()));
-        self.count(function, want.number.to_string());
+        self.count(function, agreement.master, want.number.to_string());
         (want, theirs.inner().to_vec())
     }
 }

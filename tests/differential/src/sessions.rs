@@ -1,9 +1,9 @@
 //! Sessions that make a tag and sessions that check one: a message cut anyhow, with empty pieces, refused calls and finishes of the
-//! other purpose in between, declared lengths that fit or do not, and records that no session hands out. A session in which nothing
-//! was forged must end as one call does with its bits.
+//! other purpose in between, declared lengths that fit or do not, and records that no session hands out, also with a master that no
+//! record has. A session in which nothing was forged must end as one call does with its bits.
 
 use crate::calls::{offered, turn};
-use crate::draw::{bits, far, far_bits, message, near, once_in, Settings};
+use crate::draw::{as_derived, bits, far, far_bits, message, near, once_in, Settings};
 use crate::run::{Room, Run};
 use reference::call::LIMIT;
 use reference::cases::{Random, WIDE};
@@ -49,6 +49,9 @@ pub fn case(r: &mut Random, run: &mut Run) {
     let mut course = Course { s, bytes, tag, at: 0, forged: false };
     for left in (0..=r.below(14)).rev() {
         let kind = if left == 0 { 40 } else { r.below(33) };
+        if once_in(r, 16) {
+            run.odd_master(&record, far(r).max(2));
+        }
         record = match kind {
             0 | 1 => run.piece(&record, &[], 0).0,
             2 => run.piece(&record, &course.bytes[..course.bytes.len().min(2)], 24 * r.below(2)).0,
@@ -230,7 +233,7 @@ fn open(r: &mut Random) -> Record {
 fn one_field(r: &mut Random, record: &Record) -> Record {
     let mut out = *record;
     let any = if once_in(r, 3) { Some(far(r)) } else { None };
-    match r.below(15) {
+    match r.below(17) {
         0 => out.phase = any.unwrap_or(r.below(5)),
         1 => out.part = any.unwrap_or(r.below(10)),
         2 => (out.phase, out.part) = (1 + r.below(2), out.total % 8),
@@ -249,6 +252,8 @@ fn one_field(r: &mut Random, record: &Record) -> Record {
         11 => r.fill(&mut out.chain),
         12 => out.purpose = any.unwrap_or(purpose(r)),
         13 => r.fill(&mut out.expected),
+        14 => out.agreement.master = !out.agreement.master,
+        15 => as_derived(r, &mut out.keys),
         _ => out.held[r.below(16) as usize] ^= 1 << r.below(8),
     }
     out

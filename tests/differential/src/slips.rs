@@ -1,9 +1,10 @@
 //! Lot slips: whole ones under every algorithm, cut, lengthened, changed in a byte or a bit, with fields left out, doubled or
-//! exchanged, under other keys, under another agreement than they name, and bytes that are no slip. One slip of each kind is cut
-//! everywhere and changed everywhere. A slip that is accepted is written again, and every slip is read once more under an agreement
-//! that it does not meet, and once more from a record that it was gathered into; half of them from a forged record too.
+//! exchanged, under other keys, under another agreement than they name, with the master told wrongly, and bytes that are no slip. One
+//! slip of each kind is cut everywhere and changed everywhere. A slip that is accepted is written again, and every slip is read once
+//! more under an agreement that it does not meet, and once more from a record that it was gathered into; half of them from a forged
+//! record too.
 
-use crate::draw::{another, once_in, Settings};
+use crate::draw::{another, as_derived, once_in, Settings};
 use crate::gathered;
 use crate::run::{word, words, Run};
 use crate::writes::again;
@@ -42,13 +43,13 @@ fn covered(r: &mut Random) -> Vec<Vec<u8>> {
 
 /// Settings whose three numbers a seal can name.
 fn nameable(s: Settings) -> Settings {
-    let Agreement { algorithm, padding, m } = s.agreement;
+    let Agreement { algorithm, padding, m, master } = s.agreement;
     let [algorithm, padding, m] = [algorithm, padding, m].map(|number| number % 256);
-    Settings { agreement: Agreement { algorithm, padding, m }, ..s }
+    Settings { agreement: Agreement { algorithm, padding, m, master }, ..s }
 }
 
 /// The fields and a seal over them that names these settings and has this tag.
-fn naming(Agreement { algorithm, padding, m }: Agreement, covered: &[u8], tag: &[u8]) -> Vec<u8> {
+fn naming(Agreement { algorithm, padding, m, .. }: Agreement, covered: &[u8], tag: &[u8]) -> Vec<u8> {
     let value = [&[algorithm as u8, padding as u8, m as u8], tag].concat();
     [covered, &field(0x7F, &value)].concat()
 }
@@ -60,11 +61,11 @@ fn sealed(s: &Settings, covered: &[u8]) -> Vec<u8> {
     naming(s.agreement, covered, &tag[..s.tag_size()])
 }
 
-/// What a slip names whose seal stands in its place.
-fn named(slip: &[u8]) -> Agreement {
+/// What a slip names whose seal stands in its place, with a master or without.
+fn named(slip: &[u8], master: bool) -> Agreement {
     let at = usize::from(slip[13]) + 24;
     let [algorithm, padding, m] = [0, 1, 2].map(|more| slip[at + more].into());
-    Agreement { algorithm, padding, m }
+    Agreement { algorithm, padding, m, master }
 }
 
 /// A slip is read under what it was sealed under; now and then under another agreement.
@@ -81,6 +82,7 @@ pub fn case(r: &mut Random, run: &mut Run) {
     match r.below(16) {
         0 => s.agreement = another(r, s.agreement),
         1 => s.agreement = Settings::draw(r).agreement,
+        2 => s.agreement.master = !s.agreement.master,
         _ => (),
     }
     read(r, run, &s, &slip);
@@ -104,7 +106,7 @@ fn read(r: &mut Random, run: &mut Run, s: &Settings, slip: &[u8]) -> u64 {
 /// It gets 25, or as before the fault of its layout.
 fn other(r: &mut Random, run: &mut Run, s: &Settings, slip: &[u8], number: u64) {
     let at_fault = (20..=24).contains(&number);
-    let agreement = another(r, if at_fault { s.agreement } else { named(slip) });
+    let agreement = another(r, if at_fault { s.agreement } else { named(slip, s.agreement.master) });
     let any = Settings::draw(r).keys;
     let keys = if once_in(r, 2) { &s.keys } else { &any };
     let got = run.read_other(agreement, keys, slip).number;
@@ -144,6 +146,7 @@ fn changed(r: &mut Random) -> (Vec<u8>, Settings) {
         }
         6 if !s.keys.is_empty() => s.keys[0] ^= 1 << r.below(8),
         7 => s.keys.truncate(r.below(17) as usize),
+        8 if s.keys.len() == 32 && s.agreement.master => as_derived(r, &mut s.keys),
         8 if s.keys.len() == 32 => s.keys.copy_within(..16, 16),
         _ => (),
     }
@@ -192,7 +195,7 @@ pub fn every(r: &mut Random, run: &mut Run, [algorithm, padding]: [u64; 2]) {
     let mut tag = [0; 16];
     reference::make(s.agreement, &s.keys, &part, 8 * part.len() as u64, &mut tag);
     for m in 0..=129 {
-        let own = Settings { agreement: Agreement { algorithm, padding, m }, keys: s.keys.clone() };
+        let own = Settings { agreement: Agreement { m, ..s.agreement }, keys: s.keys.clone() };
         for size in [1, bytes_for(m), bytes_for(m) + 1].map(|size| size.clamp(1, 16) as usize) {
             let slip = naming(own.agreement, &part, &tag[..size]);
             read(r, run, &own, &slip);
@@ -200,7 +203,7 @@ pub fn every(r: &mut Random, run: &mut Run, [algorithm, padding]: [u64; 2]) {
         }
     }
     // A tag of one bit: one of the two is right where m = 1 was agreed, and neither passes where more was.
-    let one = Agreement { algorithm, padding, m: 1 };
+    let one = Agreement { m: 1, ..s.agreement };
     let both = [0x00, 0x80].map(|tag| naming(one, &part, &[tag]));
     for (m, wanted) in [(1, [0, 30]), (m_limit(algorithm), [25, 25])] {
         s.agreement.m = m;

@@ -124,7 +124,7 @@ pub fn again(r: &mut Random, run: &mut Run, s: &Settings, slip: &[u8], read: &Sl
 pub fn rooms(r: &mut Random, run: &mut Run, [algorithm, padding]: [u64; 2]) {
     let (mut s, limit) = (Settings::sound(r, algorithm), m_limit(algorithm));
     for m in 0..=limit + 1 {
-        s.agreement = Agreement { algorithm, padding, m };
+        s.agreement = Agreement { padding, m, ..s.agreement };
         let (one, outside) = (sound(r), !(1..=limit).contains(&m));
         let length = length(&s, &one);
         for (size, number) in [(length - 1, 10), (length, 0), (length + 1, 0)] {

@@ -1,6 +1,7 @@
 //! Making and checking a tag in one call, and the refusals 1 to 10.
 
-use crate::mac::{self, alternate, key_at, two_keys};
+use crate::derive::{in_use, key_bytes};
+use crate::mac::{self, two_keys};
 use crate::padding::{self, bytes_for};
 use crate::sm4::Block;
 
@@ -13,6 +14,8 @@ pub struct Agreement {
     pub algorithm: u64,
     pub padding: u64,
     pub m: u64,
+    /// Whether keys are derived from a master.
+    pub master: bool,
 }
 
 /// `number` is 0 or the refusal's. `yes` is 1 for a tag made or found right; a tag found wrong is
@@ -32,7 +35,7 @@ impl Answer {
 
 /// The first of refusals 1 to 6 that applies, or 0.
 pub fn settings_refusal(agreement: Agreement, keys: &[u8]) -> u64 {
-    let Agreement { algorithm, padding, m } = agreement;
+    let Agreement { algorithm, padding, m, .. } = agreement;
     if !(1..=8).contains(&algorithm) {
         return 1;
     }
@@ -42,18 +45,18 @@ pub fn settings_refusal(agreement: Agreement, keys: &[u8]) -> u64 {
     if !(1..=mac::m_limit(algorithm)).contains(&m) {
         return 3;
     }
-    if keys.len() != if two_keys(algorithm) { 32 } else { 16 } {
+    if Some(keys.len()) != key_bytes(agreement) {
         return 4;
     }
     if !two_keys(algorithm) || algorithm == 3 {
         return 0;
     }
-    let (k, k1) = (key_at(keys, 0), key_at(keys, 1));
-    if k == k1 || algorithm == 4 && k == alternate(&k1) {
+    let [k, k1, k2] = in_use(agreement, keys).keys;
+    if k == k1 || algorithm == 4 && k == k2 {
         return 5;
     }
-    if algorithm == 4 && k1 == alternate(&k1) {
-        return 6; // never: K'' differs from K' in every byte
+    if algorithm == 4 && k1 == k2 {
+        return 6; // never: K'' differs from K' in every byte, or the two are different blocks enciphered under one key
     }
     0
 }
@@ -66,7 +69,7 @@ pub fn call_refusal(
     bits: u64,
     length_fits: impl Fn(usize) -> bool,
 ) -> u64 {
-    let Agreement { algorithm, padding, m } = agreement;
+    let Agreement { algorithm, padding, m, .. } = agreement;
     match settings_refusal(agreement, keys) {
         0 if message.len() as u64 != bytes_for(bits) => 7,
         0 if bits > LIMIT => 8,
@@ -88,8 +91,8 @@ fn tag_of(
     if number != 0 {
         return Err(number);
     }
-    let Agreement { algorithm, padding, m } = agreement;
-    let (g, calls) = mac::output(algorithm, padding, keys, message, bits);
+    let Agreement { algorithm, m, .. } = agreement;
+    let (g, calls) = mac::output(agreement, keys, message, bits);
     Ok((mac::truncate(algorithm, m, bits, &g), bytes_for(m) as usize, calls))
 }
 

@@ -25,7 +25,13 @@
 //! 6. by below(16): 0: bytes 16..32 become bytes 0..16; 1: the same, each xor F0; 2: as 0, and byte
 //!    31 xor 1; else nothing.
 //!
-//! size(m) is ⌈m/8⌉ for m from 1 to 128, else 16.
+//! size(m) is ⌈m/8⌉ for m from 1 to 128, else 16. No master is in use.
+//!
+//! # Settings that may have a master
+//!
+//! 1. a master, by below(4): 0: none; else one. 2. algorithm, by below(16): 0: far; 1, 2: 1 + below(8); else 2, 4, 6 at below(3).
+//! 3. to 7. as 2. to 6. of Settings; but under a master w = 16 for algorithms 2 and 6, and of its last draw, for algorithm 4, M being
+//!    bytes 16..32: 3: bytes 0..16 become M's first derived key; 4: its second; 5, 6: as 3 and 4, and byte 15 xor 1.
 //!
 //! # A slip
 //!
@@ -56,7 +62,8 @@
 //!    2: length + 1 + below(8); else length.
 
 use crate::call::{make, settings_refusal, Agreement};
-use crate::mac::{m_limit, two_keys};
+use crate::derive::{derived, key_bytes};
+use crate::mac::{key_at, m_limit, two_keys};
 use crate::padding::bytes_for;
 use crate::slip::Says;
 
@@ -118,6 +125,21 @@ impl Settings {
             0 => r.one_of(&FAR),
             _ => 1 + r.below(8),
         };
+        Settings::draw_for(r, algorithm, false)
+    }
+
+    /// Settings that may have a master.
+    pub fn draw_master(r: &mut Random) -> Settings {
+        let master = r.below(4) > 0;
+        let algorithm = match r.below(16) {
+            0 => r.one_of(&FAR),
+            1 | 2 => 1 + r.below(8),
+            _ => [2, 4, 6][r.below(3) as usize],
+        };
+        Settings::draw_for(r, algorithm, master)
+    }
+
+    fn draw_for(r: &mut Random, algorithm: u64, master: bool) -> Settings {
         let padding = match r.below(32) {
             0 => r.one_of(&FAR),
             1 => 1 + r.below(4),
@@ -131,7 +153,8 @@ impl Settings {
             2 => 8 * r.below(17),
             _ => 1 + r.below(limit),
         };
-        let wanted = if two_keys(algorithm) { 32 } else { 16 };
+        let agreement = Agreement { algorithm, padding, m, master };
+        let wanted = key_bytes(agreement).unwrap_or(if two_keys(algorithm) { 32 } else { 16 }) as u64;
         let key_count = match r.below(32) {
             0 => r.below(49),
             1 => wanted - 1,
@@ -148,7 +171,11 @@ impl Settings {
             }
             key_bytes[31] ^= u8::from(kind == 2);
         }
-        let agreement = Agreement { algorithm, padding, m };
+        if master && algorithm == 4 && (3..7).contains(&kind) {
+            let keys = derived(&key_at(&key_bytes, 1));
+            key_bytes[..16].copy_from_slice(&keys[usize::from(kind % 2 == 0)]);
+            key_bytes[15] ^= u8::from(kind > 4);
+        }
         Settings { agreement, key_bytes, key_count: key_count as usize }
     }
 
@@ -205,14 +232,14 @@ fn draw_agreed(r: &mut Random, named: [u64; 3]) -> Agreement {
         numbers = Settings::draw(r).words();
     }
     let [algorithm, padding, m] = numbers;
-    Agreement { algorithm, padding, m }
+    Agreement { algorithm, padding, m, master: false }
 }
 
 /// A slip and the settings that it is read under.
 pub fn draw_slip(r: &mut Random) -> (Vec<u8>, Settings) {
     let mut s = Settings::draw(r);
     let [algorithm, padding, m] = s.words().map(|number| number % 256);
-    s.agreement = Agreement { algorithm, padding, m };
+    s.agreement = Agreement { algorithm, padding, m, master: false };
     let Says { year, month, day, lot, amount } = draw_says(r);
     let tag_count = match r.below(16) {
         0 => s.tag_size() - 1,

@@ -1,12 +1,14 @@
-//! Plain reference of document 01 and of 02 §1 to §3 and §5: SM4, the four paddings and the eight algorithms of GB/T 15852.1
-//! (approval draft), making and checking in one call and in sessions by pieces, a lost block worked out, and lot slips, read,
-//! gathered from reads, and written. Written from the documents alone, to produce expected outputs and to compare with.
+//! Plain reference of document 01 and of 02 §1 to §3, §5 and §6: SM4, the four paddings and the eight algorithms of GB/T 15852.1
+//! (approval draft), keys derived from a master, making and checking in one call and in sessions by pieces, a lost block worked out,
+//! and lot slips, read, gathered from reads, and written. Written from the documents alone, to produce expected outputs and to
+//! compare with.
 //!
 //! Programs, for tests/make-runs: `commands` (generated command lines), `answer` (answers to command lines).
 #![allow(clippy::manual_is_multiple_of)]
 
 pub mod call;
 pub mod cases;
+pub mod derive;
 pub mod gathered;
 pub mod lost;
 pub mod mac;

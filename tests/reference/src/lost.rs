@@ -12,8 +12,7 @@ pub fn no_such_block(bits: u64, block: u64) -> bool {
 
 /// D(j) under which the padded message has this G, the other blocks being what they are; D(j) itself is not read.
 fn filling(agreement: Agreement, keys: &[u8], message: &[u8], bits: u64, j: u64, g: &Block) -> Block {
-    let Agreement { algorithm, padding, .. } = agreement;
-    let mut engine = Engine::new(algorithm, keys);
+    let (padding, mut engine) = (agreement.padding, Engine::new(agreement, keys));
     let d = |i| padding::block(padding, message, bits, i);
     let mut h = engine.begin();
     for i in 1..j {

@@ -1,5 +1,7 @@
 //! The eight algorithms (000, 6.5 to 7.9, and document 01's table), over counted cipher calls.
 
+use crate::call::Agreement;
+use crate::derive::in_use;
 use crate::padding;
 use crate::sm4::{self, Block, RoundKeys};
 
@@ -73,7 +75,7 @@ pub fn key_at(keys: &[u8], place: usize) -> Block {
     std::array::from_fn(|i| keys[16 * place + i])
 }
 
-/// The keys of one algorithm, and how often the cipher was called.
+/// The keys in use of one algorithm, and how often the cipher was called, for them and since.
 pub struct Engine {
     algorithm: u64,
     keys: [RoundKeys; 3],
@@ -81,15 +83,16 @@ pub struct Engine {
 }
 
 impl Engine {
-    /// `keys` holds at least the bytes that the algorithm takes.
-    pub fn new(algorithm: u64, keys: &[u8]) -> Engine {
-        let mut engine = Engine { algorithm, keys: [[0; 32]; 3], calls: 0 };
-        engine.keys[K] = sm4::round_keys(&key_at(keys, 0));
+    /// `keys` holds at least the bytes that these settings take.
+    pub fn new(agreement: Agreement, keys: &[u8]) -> Engine {
+        let (algorithm, used) = (agreement.algorithm, in_use(agreement, keys));
+        let mut engine = Engine { algorithm, keys: [[0; 32]; 3], calls: used.calls };
+        engine.keys[K] = sm4::round_keys(&used.keys[K]);
         if two_keys(algorithm) {
-            engine.keys[K1] = sm4::round_keys(&key_at(keys, 1));
+            engine.keys[K1] = sm4::round_keys(&used.keys[K1]);
         }
         if algorithm == 4 {
-            engine.keys[K2] = sm4::round_keys(&alternate(&key_at(keys, 1)));
+            engine.keys[K2] = sm4::round_keys(&used.keys[K2]);
         }
         engine
     }
@@ -190,8 +193,8 @@ impl Engine {
 }
 
 /// G and the number of cipher calls, for inputs that refusals 1 to 9 let pass.
-pub fn output(algorithm: u64, padding: u64, keys: &[u8], message: &[u8], bits: u64) -> (Block, u64) {
-    let mut engine = Engine::new(algorithm, keys);
+pub fn output(agreement: Agreement, keys: &[u8], message: &[u8], bits: u64) -> (Block, u64) {
+    let (padding, mut engine) = (agreement.padding, Engine::new(agreement, keys));
     let q = padding::q(padding, bits);
     let mut h = engine.begin();
     for i in 1..q {

@@ -1,7 +1,8 @@
-//! Sessions: a record handed from call to call by value (01 "Numbered answers", 02 §3, open points 15 to 23 and 30).
+//! Sessions: a record handed from call to call by value (01 "Numbered answers", 02 §3 and §6, open points 15 to 23, 30 and 32).
 
 use crate::call::{settings_refusal, Agreement, Answer, LIMIT};
-use crate::mac::{truncate, two_keys, Engine};
+use crate::derive::key_bytes;
+use crate::mac::{truncate, Engine};
 use crate::padding::{self, bytes_for};
 use crate::sm4::Block;
 
@@ -23,7 +24,7 @@ pub struct Record {
     pub declared: u64,
     /// The bits fed so far.
     pub total: u64,
-    /// K, then K'; after a start zeros where there is no K'.
+    /// The key bytes as they were given, a master too; after a start zeros where there are fewer than 32.
     pub keys: [u8; 32],
     /// H of the blocks enciphered so far.
     pub chain: Block,
@@ -35,8 +36,9 @@ pub struct Record {
 }
 
 impl Record {
-    fn keys_in_use(&self) -> &[u8] {
-        &self.keys[..if two_keys(self.agreement.algorithm) { 32 } else { 16 }]
+    /// The key bytes that a start would take for these settings; none where it would refuse them whatever their number.
+    fn given(&self) -> &[u8] {
+        &self.keys[..key_bytes(self.agreement).unwrap_or(0)]
     }
 
     /// Message blocks enciphered so far: all full ones but the waiting block.
@@ -58,7 +60,7 @@ impl Record {
         };
         state_fits
             && matches!(self.purpose, MAKING | CHECKING)
-            && settings_refusal(self.agreement, self.keys_in_use()) == 0
+            && settings_refusal(self.agreement, self.given()) == 0
             && self.total <= LIMIT
             && (self.agreement.padding != 3 || self.declared <= LIMIT && self.total <= self.declared)
             && u128::from_be_bytes(self.held).checked_shl(self.held_bits() as u32).unwrap_or(0) == 0
@@ -71,7 +73,7 @@ impl Record {
         self.held = [0; 16];
     }
 
-    /// The calls made by the start and the pieces that led to this record.
+    /// The calls made by the start and the pieces that led to this record, but for the keys, which each call derives anew.
     fn calls_before(&self) -> u64 {
         let Agreement { algorithm, padding, .. } = self.agreement;
         let blocks = self.chained() + u64::from(padding == 3);
@@ -88,12 +90,11 @@ fn start_refusal(agreement: Agreement, keys: &[u8], declared: u64) -> u64 {
 
 /// The record before the first bit, for settings and a declared length that are not refused.
 fn begun(agreement: Agreement, keys: &[u8], declared: u64) -> Record {
-    let Agreement { algorithm, padding, .. } = agreement;
     let mut record = Record { phase: 1, purpose: MAKING, agreement, ..Record::default() };
     record.keys[..keys.len()].copy_from_slice(keys);
-    let mut engine = Engine::new(algorithm, keys);
+    let mut engine = Engine::new(agreement, keys);
     record.chain = engine.begin();
-    if padding == 3 {
+    if agreement.padding == 3 {
         record.declared = declared;
         record.chain = engine.step(true, &record.chain, &padding::length_block(declared));
     }
@@ -144,7 +145,7 @@ pub fn piece(record: Record, bytes: &[u8], bits: u64) -> (Record, Answer) {
         return (record, Answer::refused(number));
     }
     let mut next = record;
-    let mut engine = Engine::new(next.agreement.algorithm, next.keys_in_use());
+    let mut engine = Engine::new(next.agreement, next.given());
     let mut left = bits;
     for byte in bytes {
         if padding::complete(next.total) {
@@ -175,12 +176,12 @@ fn finish_refusal(record: &Record, purpose: u64) -> u64 {
     }
 }
 
-/// The tag of an open record's bits in its first ⌈m/8⌉ bytes, and all calls of the session.
+/// The tag of an open record's bits in its first ⌈m/8⌉ bytes, and all calls of the session, those for the keys once.
 fn tag_of(record: &Record) -> (Block, u64) {
-    let Agreement { algorithm, padding, m } = record.agreement;
+    let Agreement { algorithm, padding, m, .. } = record.agreement;
     let before = record.calls_before();
     let mut last = *record;
-    let mut engine = Engine::new(algorithm, last.keys_in_use());
+    let mut engine = Engine::new(last.agreement, last.given());
     let complete = padding::complete(last.total);
     if padding == 2 && complete {
         last.push(&mut engine, record.total == 128);

@@ -1,4 +1,5 @@
-//! The lot slip, read under an agreement (01 "The lot slip", 02 §2, open points 24 to 26 and 29) and written (02 §1).
+//! The lot slip, read under an agreement (01 "The lot slip", 02 §2, open points 24 to 26 and 29) and written (02 §1). It does not name
+//! a master (02 §6).
 
 use crate::call::{check, make, Agreement};
 use crate::padding::bytes_for;
@@ -107,7 +108,8 @@ fn parse(agreement: Agreement, keys: &[u8], slip: &[u8]) -> Result<Slip, u64> {
     let seal = field(slip, seal_at, SEAL, 4..=19)?;
     demand(slip.len() == seal_at + 3 + seal.len(), 24)?;
 
-    let named = Agreement { algorithm: seal[0].into(), padding: seal[1].into(), m: seal[2].into() };
+    let named =
+        Agreement { algorithm: seal[0].into(), padding: seal[1].into(), m: seal[2].into(), ..agreement };
     demand(named == agreement, 25)?;
 
     let (covered, bits) = (&slip[..seal_at], 8 * seal_at as u64);
@@ -166,7 +168,7 @@ fn print(agreement: Agreement, keys: &[u8], says: &Says, room: usize) -> Result<
     let answer = make(agreement, keys, &covered, 8 * covered.len() as u64, &mut tag);
     demand(answer.number == 0, answer.number)?;
 
-    let Agreement { algorithm, padding, m } = agreement;
+    let Agreement { algorithm, padding, m, .. } = agreement;
     let named = [algorithm as u8, padding as u8, m as u8];
     let seal = put(SEAL, &[&named, &tag[..bytes_for(m) as usize]].concat());
     let slip = [covered, seal].concat();

@@ -1,16 +1,17 @@
 //! Annex A of 000, the borders and runs of document 01, the appendix runs R3 to R7 of the requirements,
 //! the order of refusals, forged records, and slips, read, gathered from reads, and written. Sessions that check a tag: checks.rs;
-//! a lost block: lost.rs.
+//! a lost block: lost.rs; keys derived from a master: master.rs.
 
 use crate::call::LIMIT;
 use crate::cases::{draw_slip, draw_write, Random, Settings};
 use crate::gathered::{firsts, Gathered};
 use crate::session::{finish, finish_check, piece, start, Record, CHECKING, MAKING};
 use crate::slip::{self as slips, read, write, Says, Slip, Written};
-use crate::{check, hex, mac, make, padding, sm4, unhex, Agreement, Answer};
+use crate::{check, derive, hex, mac, make, padding, sm4, unhex, Agreement, Answer};
 
 mod checks;
 mod lost;
+mod master;
 
 const K: &str = "0123456789ABCDEFFEDCBA9876543210";
 const KK: &str = "0123456789ABCDEFFEDCBA98765432104149D2ADED9456681EC8B511D9E7EE04";
@@ -26,7 +27,7 @@ fn block(text: &str) -> [u8; 16] {
 }
 
 fn agreed(algorithm: u64, padding: u64, m: u64) -> Agreement {
-    Agreement { algorithm, padding, m }
+    Agreement { algorithm, padding, m, master: false }
 }
 
 fn number(number: u64) -> Answer {
@@ -37,12 +38,23 @@ fn done(calls: u64) -> Answer {
     Answer { number: 0, yes: 1, calls }
 }
 
+/// The cipher calls of this thread so far, but for those that derive keys from a master.
+fn real_calls() -> u64 {
+    sm4::tests::CALLS.get() - 2 * derive::tests::DERIVED.get()
+}
+
+/// The calls that derive the keys of one tag: they count once, however often a reference that keeps no keys derives them.
+fn for_keys(agreement: Agreement) -> u64 {
+    2 * u64::from(agreement.master)
+}
+
 /// Makes into a buffer with a byte to spare, which must stay; the count must be that of real calls.
 fn made(agreement: Agreement, keys: &[u8], message: &[u8], bits: u64) -> (Answer, Vec<u8>) {
-    let before = sm4::tests::CALLS.get();
+    let before = real_calls();
     let mut tag = [0x5A; 17];
     let answer = make(agreement, keys, message, bits, &mut tag);
-    assert_eq!(sm4::tests::CALLS.get() - before, answer.calls);
+    let real = real_calls() - before;
+    assert_eq!(if answer.number == 0 { for_keys(agreement) + real } else { real }, answer.calls);
     let size = if answer.number == 0 { padding::bytes_for(agreement.m) as usize } else { 0 };
     assert!(tag[size..].iter().all(|byte| *byte == 0x5A));
     (answer, tag[..size].to_vec())
@@ -50,7 +62,7 @@ fn made(agreement: Agreement, keys: &[u8], message: &[u8], bits: u64) -> (Answer
 
 /// The same through a session, cut into pieces of these many bits; all pieces must be accepted.
 fn in_session(agreement: Agreement, keys: &[u8], message: &[u8], cuts: &[u64]) -> (Answer, Vec<u8>) {
-    let before = sm4::tests::CALLS.get();
+    let before = real_calls();
     let (mut record, answer) = start(agreement, keys, cuts.iter().sum());
     assert_eq!(answer, number(0));
     let mut at = 0;
@@ -64,7 +76,7 @@ fn in_session(agreement: Agreement, keys: &[u8], message: &[u8], cuts: &[u64]) -
     }
     let mut tag = [0x5A; 17];
     let (closed, answer) = finish(record, &mut tag);
-    assert_eq!((closed, sm4::tests::CALLS.get() - before), (Record::default(), answer.calls));
+    assert_eq!((closed, for_keys(agreement) + real_calls() - before), (Record::default(), answer.calls));
     let size = padding::bytes_for(agreement.m) as usize;
     assert!(tag[size..].iter().all(|byte| *byte == 0x5A));
     (answer, tag[..size].to_vec())
@@ -211,7 +223,7 @@ fn annex_a_tags_in_one_call() {
         let (a, p) = (v.algorithm, v.padding);
         let extra = [0, 1, 2, 2, 1, 0, 0, 1][a as usize - 1];
         let calls = padding::q(p, v.bits) + extra;
-        let (g, counted) = mac::output(a, p, &v.keys, v.data, v.bits);
+        let (g, counted) = mac::output(agreed(a, p, 128), &v.keys, v.data, v.bits);
         assert_eq!((g.to_vec(), counted), (v.g.clone(), calls));
         for (m, tag) in wanted(&v) {
             assert_eq!(made(agreed(a, p, m), &v.keys, v.data, v.bits), (done(calls), tag.clone()));
@@ -520,13 +532,13 @@ const COVERED: &str = "01000832303236313130340200024137030004000001F4";
 const SEAL: &str = "7F000B050440A47A9299C7B8456C";
 
 /// What that seal names.
-const NAMED: Agreement = Agreement { algorithm: 5, padding: 4, m: 64 };
+const NAMED: Agreement = Agreement { algorithm: 5, padding: 4, m: 64, master: false };
 
 /// The three accepted slips of appendix R6: what was agreed, the keys and the seal.
 const R6: [(Agreement, &str, &str); 3] = [
     (NAMED, K, SEAL),
-    (Agreement { algorithm: 2, padding: 2, m: 64 }, KK, "7F000B02024025BE21F5FDEE57F4"),
-    (Agreement { algorithm: 1, padding: 1, m: 12 }, K, "7F000501010CA330"),
+    (Agreement { algorithm: 2, padding: 2, m: 64, master: false }, KK, "7F000B02024025BE21F5FDEE57F4"),
+    (Agreement { algorithm: 1, padding: 1, m: 12, master: false }, K, "7F000501010CA330"),
 ];
 
 /// P12's fields under a seal.
@@ -535,7 +547,7 @@ fn p12(seal: &str) -> Vec<u8> {
 }
 
 /// P12's fields under a seal that names the lowest bytes of these three and has this tag.
-fn naming(Agreement { algorithm, padding, m }: Agreement, tag: &[u8]) -> Vec<u8> {
+fn naming(Agreement { algorithm, padding, m, .. }: Agreement, tag: &[u8]) -> Vec<u8> {
     let head = [0x7F, 0, 3 + tag.len() as u8, algorithm as u8, padding as u8, m as u8];
     [&h(COVERED), &head[..], tag].concat()
 }
@@ -547,7 +559,7 @@ fn named(slip: &[u8]) -> Agreement {
 }
 
 /// The agreements of which one number is another, so much more or less.
-fn off_by(by: u64, Agreement { algorithm, padding, m }: Agreement) -> [Agreement; 6] {
+fn off_by(by: u64, Agreement { algorithm, padding, m, .. }: Agreement) -> [Agreement; 6] {
     [
         agreed(algorithm.wrapping_sub(by), padding, m),
         agreed(algorithm.wrapping_add(by), padding, m),
@@ -951,11 +963,11 @@ impl Print {
     /// The answer and the room, 5A before the call. A refusal must leave the room and report nothing; the count of a written slip
     /// must be that of real calls, and the bytes past it must stay.
     fn run(&self) -> (Written, Vec<u8>) {
-        let before = sm4::tests::CALLS.get();
+        let before = real_calls();
         let mut room = vec![0x5A; self.room];
         let written = write(self.agreement, &self.keys, &self.says, &mut room);
         match written.number {
-            0 => assert_eq!(sm4::tests::CALLS.get() - before, written.calls),
+            0 => assert_eq!(for_keys(self.agreement) + real_calls() - before, written.calls),
             number => assert_eq!(written, Written { number, length: 0, calls: 0 }),
         }
         assert!(room[written.length as usize..].iter().all(|byte| *byte == 0x5A));

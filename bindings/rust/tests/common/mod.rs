@@ -23,7 +23,7 @@ pub fn keys() -> Vec<u8> {
 }
 
 pub const fn agreed(algorithm: u64, padding: u64, m: u64) -> Agreement {
-    Agreement { algorithm, padding, m }
+    Agreement { algorithm, padding, m, master: false }
 }
 
 pub struct Vector {

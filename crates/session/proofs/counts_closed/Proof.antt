@@ -8,7 +8,7 @@ use native.Mathlib.Nat.{add-zero}
 use lib.Dec.{eqb}
 use Rattle.bits.specs.Choice.{_given_, firstOf, faults}
 use Rattle.bits.specs.Str.{bytesBits}
-use Rattle.session.specs.Record.{passesDeclared, strayBit, closedFaults, countsClosed}
+use Rattle.session.specs.Record.{settingsUnsound, passesDeclared, strayBit, closedFaults, countsClosed}
 use borrow.Author.Needs.{needs}
 use Rattle.session.proofs.counts_closed.Statement.{statement}
 use Rattle.session.proofs.counts_closed.Tie as tie
@@ -19,12 +19,13 @@ returns c =
     let stray = c .before .before .before in
     let long = stray .before .before .before in
     let fit = long .before .before .before in
-    let s = fit .before .before .before .before .before .args .s in
+    let start = fit .before .before .before .before in
+    let s = start .args .s in
     ap (λ (n : ℕ). not (eqb n 0))
     (c .first .ensures
     ∙ λ i. firstOf (
     11 given fit .phase-unfit .ensures i ∷
-    11 given long .before .before .settings-unsound .ensures i ∷
+    11 given (long .before .before .settings-unsound .ensures ∙ ap (settingsUnsound (s .agreement)) (start .pre)) i ∷
     11 given long .before .too-many-bits .ensures i ∷
     11 given long .declared-too-long .ensures i ∷
     11 given (stray .before .before .passes-declared .ensures ∙ ap (passesDeclared (s .agreement .padding) (s .declared)) (add-zero (s .total))) i ∷

@@ -27,7 +27,7 @@ feed-requires : tie.Need-feed-requires
 feed-requires c κs =
     let at = c .before .before in
     let start = at .before .before .before .before .before .before in
-    (at .before .before .before .before .table .ensures, (keysIn (start .args .s), rounds at), start .pre .0, start .pre .1)
+    (at .before .before .before .before .table .ensures, (keysIn (start .args .s), rounds at), start .pre .1, start .pre .2)
 
 returns : tie.Need-returns
 unfolding fedOf standing stateIn bitsOf
@@ -40,7 +40,7 @@ returns c =
     let hold = fed .feed .ensures (keysIn s) (rounds at)
     ∙ ap (λ (S : Settings). holdOf (absorb (cipherAt 1 .n) (stepsAt 1 (S .algorithm) (keysIn s)) (stateAt (cipherAt 1 .n) (S .padding) (s .total) (s .hold)) (take (a .bits) (bytesBits (a .bytes .now))))) (at .before .before .of .ensures) in
     rw (hold, c .before .before .phase-at .ensures)
-    (ap (λ (n : ℕ). standing s (s .total + n) (absorb (cipherAt 1 .n) (stepsIn s) (stateIn s) (bitsOf (a .bytes .now) (a .bits)))) (sym (length-bitsOf (a .bytes .now) (a .bits) (start .pre .0))))
+    (ap (λ (n : ℕ). standing s (s .total + n) (absorb (cipherAt 1 .n) (stepsIn s) (stateIn s) (bitsOf (a .bytes .now) (a .bits)))) (sym (length-bitsOf (a .bytes .now) (a .bits) (start .pre .1))))
 
 pub fed-spec : {M : Type 1} → statement M
 fed-spec =

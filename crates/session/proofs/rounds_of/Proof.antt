@@ -9,14 +9,13 @@ use borrow.Author.Needs.{needs}
 use Rattle.session.proofs.rounds_of.Statement.{statement}
 use Rattle.session.proofs.rounds_of.Tie as tie
 
-keys-are : (c : tie.After-unpack) → keyBlocks 1 (c .unpack .result) ≡ keyBits (c .unpack .result)
-keys-are c = whole-keys 1 (c .unpack .result) sm4-key (search needs) (search needs) (search needs)
+keys-are : (c : tie.Start) → keyBlocks 1 (c .args .keys) ≡ keyBits (c .args .keys)
+keys-are c = whole-keys 1 (c .args .keys) sm4-key (search needs) (search needs) (search needs)
 
 returns : tie.Need-returns
 returns c =
-    let at = c .before in
-    let algorithm = at .before .before .before .args .s .agreement .algorithm in
-    c .expand .ensures ∙ ap (roundsOf 1 algorithm) (keys-are at ∙ at .unpack .ensures)
+    let start = c .before in
+    c .expand .ensures ∙ ap (roundsOf 1 (start .args .s .agreement .algorithm)) (keys-are start ∙ start .pre .1)
 
 pub rounds-of-spec : {M : Type 1} → statement M
-rounds-of-spec = tie.close (tie.spec (λ c. search needs) (λ c κs. search needs) (λ c κs. search needs) returns)
+rounds-of-spec = tie.close (tie.spec (λ c κs. search needs) returns)

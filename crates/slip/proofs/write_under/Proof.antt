@@ -8,7 +8,7 @@ use Prim.Native.Nat.{ℕ}
 use lib.ListN.{length}
 use denote.Enum.Declared.{tagOf}
 use types.Run.{OneOf}
-use Rattle.keys.specs.Given.{keysOf}
+use Rattle.settings.specs.InUse.{inUse}
 use Rattle.settings.specs.Faults.{settingsRefusal}
 use Rattle.settings.proofs.Sound.{sound-size, sound-bytes}
 use Rattle.settings.proofs.Outcome.{the-type}
@@ -46,8 +46,8 @@ put-slip-requires c κs =
     let s = made .before .before .before .before .before in
     let a = s .args in
     let clear = made-sound (a .agreed) (a .keys .now) (a .front .now) (s .pre .0) (s .pre .1) (s .pre .2) _ (a .room .now) refl _ (sym (ap (λ (r : Outcome × List ℕ). r .0) (made .make .ensures)) ∙ c .before .before .answer2 .given .1) in
-    let bytes = sound-bytes (a .agreed) (length (a .keys .now)) (keysOf (a .keys .now)) clear in
-    (bytes .0, bytes .1 .0, sound-size (a .agreed) (length (a .keys .now)) (keysOf (a .keys .now)) clear .1, s .pre .2)
+    let bytes = sound-bytes (a .agreed) (length (a .keys .now)) (inUse (a .agreed) (a .keys .now)) clear in
+    (bytes .0, bytes .1 .0, sound-size (a .agreed) (length (a .keys .now)) (inUse (a .agreed) (a .keys .now)) clear .1, s .pre .2)
 
 returns : tie.Need-returns
 unfolding sealing

@@ -1,4 +1,4 @@
--- `session_from` meets its contract: phase and purpose of their numbers, the rest as it is.
+-- `session_from` meets its contract: phase, purpose and master of their numbers, the rest as it is.
 -- Assumes nothing.
 use mathlib.Core.Path.{refl}
 use Rattle.slipseal.specs.Border.{inward}
@@ -8,7 +8,9 @@ use Rattle.slipseal.proofs.session_from.Tie as tie
 
 returns : tie.Need-returns
 unfolding inward
-returns c = let purpose = c .before .before .before .before .before in rw (purpose .purpose-from .ensures, purpose .before .phase-from .ensures) refl
+returns c =
+    let at = c .before .before .before .before in
+    rw (at .agreed .ensures, at .before .purpose-from .ensures, at .before .before .phase-from .ensures) refl
 
 pub session-from-spec : {M : Type 1} → statement M
-session-from-spec = tie.close (tie.spec (λ c κs. search needs) (λ c κs. search needs) returns)
+session-from-spec = tie.close (tie.spec (λ c κs. search needs) (λ c κs. search needs) (λ c κs. search needs) returns)

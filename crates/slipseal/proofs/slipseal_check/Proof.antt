@@ -7,7 +7,7 @@ use Rattle.slipseal.proofs.slipseal_check.Statement.{statement}
 use Rattle.slipseal.proofs.slipseal_check.Tie as tie
 
 returns : tie.Need-returns
-returns c = c .told .ensures ∙ ap toldOf (c .before .check .ensures)
+returns c = c .told .ensures ∙ ap toldOf (rw (c .before .before .agreed .ensures) at (c .before .check .ensures))
 
 pub slipseal-check-spec : {M : Type 1} → statement M
-slipseal-check-spec = tie.close (tie.spec (λ c κs. search needs) (λ c κs. search needs) returns)
+slipseal-check-spec = tie.close (tie.spec (λ c κs. search needs) (λ c κs. search needs) (λ c κs. search needs) returns)

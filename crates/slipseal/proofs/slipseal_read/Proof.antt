@@ -7,7 +7,7 @@ use Rattle.slipseal.proofs.slipseal_read.Statement.{statement}
 use Rattle.slipseal.proofs.slipseal_read.Tie as tie
 
 returns : tie.Need-returns
-returns c = c .told-slip .ensures ∙ ap toldSlip (c .before .read .ensures)
+returns c = c .told-slip .ensures ∙ ap toldSlip (rw (c .before .before .agreed .ensures) at (c .before .read .ensures))
 
 pub slipseal-read-spec : {M : Type 1} → statement M
-slipseal-read-spec = tie.close (tie.spec (λ c κs. search needs) (λ c κs. search needs) returns)
+slipseal-read-spec = tie.close (tie.spec (λ c κs. search needs) (λ c κs. search needs) (λ c κs. search needs) returns)

@@ -8,7 +8,7 @@ use Rattle.slipseal.proofs.slipseal_restore.Tie as tie
 
 returns : tie.Need-returns
 unfolding toldRestored
-returns c = rw (c .restored-number .ensures) (ap toldRestored (c .before .before .before .restore .ensures))
+returns c = let at = c .before .before .before in rw (c .restored-number .ensures) (ap toldRestored (rw (at .before .before .agreed .ensures) at (at .restore .ensures)))
 
 pub slipseal-restore-spec : {M : Type 1} → statement M
-slipseal-restore-spec = tie.close (tie.spec (λ c κs. search needs) (λ c κs. search needs) (λ c. search needs) returns)
+slipseal-restore-spec = tie.close (tie.spec (λ c κs. search needs) (λ c κs. search needs) (λ c κs. search needs) (λ c. search needs) returns)

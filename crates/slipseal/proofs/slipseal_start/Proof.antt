@@ -7,7 +7,7 @@ use Rattle.slipseal.proofs.slipseal_start.Statement.{statement}
 use Rattle.slipseal.proofs.slipseal_start.Tie as tie
 
 returns : tie.Need-returns
-returns c = c .handed-out .ensures ∙ ap handedOut (c .before .start .ensures)
+returns c = c .handed-out .ensures ∙ ap handedOut (rw (c .before .before .agreed .ensures) at (c .before .start .ensures))
 
 pub slipseal-start-spec : {M : Type 1} → statement M
-slipseal-start-spec = tie.close (tie.spec (λ c κs. search needs) (λ c κs. search needs) returns)
+slipseal-start-spec = tie.close (tie.spec (λ c κs. search needs) (λ c κs. search needs) (λ c κs. search needs) returns)

@@ -7,12 +7,15 @@ use native.Mathlib.Omega.{arith}
 use lib.ListN.{length}
 use lib.Seq.{length-take-le}
 use Rattle.bits.specs.Choice.{pick, firstOf}
+use Rattle.block.specs.Block.{filledBlock}
+use Rattle.mac.specs.Run.{Run}
+use Rattle.mac.specs.Algorithm.{Keys}
 use Rattle.mac.specs.Tag.{bytesFor}
-use Rattle.keys.specs.Given.{keyBits}
+use Rattle.keys.specs.Given.{Unpacks}
 use Rattle.settings.specs.declared.Outcome.the-variants.{Yes, No}
 use Rattle.message.specs.Faults.{messageFaults, tagLengthWrong}
 use Rattle.message.proofs.Taken.{taken}
-use Rattle.tag.specs.OneCall.{checkUnder}
+use Rattle.tag.specs.OneCall.{tagAt, checkUnder}
 use Rattle.tag.proofs.Making.{check-refused-under, checked-is}
 use borrow.Author.Needs.{needs}
 use Rattle.tag.proofs.check_under.Statement.{statement}
@@ -25,16 +28,16 @@ refusal c =
     c .refusal .ensures ∙ ap (λ (b : Bool). firstOf (messageFaults (a .s) (length (a .message .now)) (a .bits) b)) (c .before .tag-length-wrong .ensures)
 
 returns : tie.Need-returns
-returns c =
+returns c R u =
     let at = c .before in
     let a = at .before .before .before .before .args in
-    check-refused-under (a .s) (keyBits (a .keys)) (a .message .now) (a .bits) (at .refusal .result) (a .offered .now) (refusal at) (c .if1 .taken)
+    check-refused-under (a .s) R (a .message .now) (a .bits) (at .refusal .result) (a .offered .now) (refusal at) (c .if1 .taken)
 
 tag-block-requires : tie.Need-tag-block-requires
 tag-block-requires c κs =
-    let at = c .before in
+    let at = c .before .before in
     let a = at .before .before .before .before .args in
-    let t = taken (a .s) (length (a .message .now)) (a .bits) _ (sym (refusal at) ∙ c .if1 .left) in
+    let t = taken (a .s) (length (a .message .now)) (a .bits) _ (sym (refusal at) ∙ c .before .if1 .left) in
     (t .few, t .long)
 
 -- the tag's bytes are bytes of the block
@@ -42,7 +45,7 @@ short : (c : tie.After-bytes-for) → c .bytes-for .result ≤ 16
 unfolding bytesFor
 short c =
     let made = c .before .before in
-    omega (arith, made .before .before .before .before .before .before .pre .1, c .bytes-for .ensures)
+    omega (arith, made .before .before .before .before .before .before .before .pre .1, c .bytes-for .ensures)
 
 array-share-prefix-tag : tie.Need-array-share-prefix-tag
 array-share-prefix-tag c = let l : length (c .before .before .tag-block .result) ≡ 16 = search needs in omega (arith, short c)
@@ -54,28 +57,29 @@ slice-aggregate-equal-bytes c =
     sym (length-take-le (c .before .bytes-for .result) tag (omega (arith, short (c .before))))
 
 -- yes or no, by the comparison
-answer : (c : tie.After-equal-bytes)
-    → let far = c .before .before .before .before .before .before in let a = far .before .before .before .before .args in
+answer : (c : tie.After-equal-bytes) (R : Run Keys)
+    → let far = c .before .before .before .before .before .before .before in let a = far .before .before .before .before .args in
     let calls = c .before .before .before .calls .result in
-    pick (c .equal-bytes .result) (Yes calls) (No calls) ≡ checkUnder (a .s) (keyBits (a .keys)) (a .message .now) (a .bits) (a .offered .now)
-answer c =
+    Unpacks (a .unpacked) R → pick (c .equal-bytes .result) (Yes calls) (No calls) ≡ checkUnder (a .s) R (a .message .now) (a .bits) (a .offered .now)
+answer c R u =
     let made = c .before .before .before .before in
-    let at = made .before .before in
+    let tested = made .before .before in
+    let at = tested .before in
     let start = at .before .before .before .before in
     let a = start .args in
-    checked-is (a .s) (keyBits (a .keys)) (a .message .now) (a .bits) (at .refusal .result) _ _ _ (made .before .if1 .left) (c .before .before .bytes-for .ensures) (start .pre .1) (search needs) (made .tag-block .ensures)
-    (c .before .before .before .calls .ensures) (a .offered .now) _ (refusal at) (λ i. at .before .before .shared-slice-known2 .given i .fits) (c .equal-bytes .ensures)
+    checked-is (a .s) R (a .message .now) (a .bits) (at .refusal .result) _ _ _ _ (tested .if1 .left) (c .before .before .bytes-for .ensures) (start .pre .1) (search needs) (made .tag-block .ensures ∙ ap (λ (K : Keys). filledBlock (tagAt (a .s) K (a .message .now) (a .bits))) (u .0))
+    (u .1) (c .before .before .before .calls .ensures) (a .offered .now) _ (refusal at) (λ i. at .before .before .shared-slice-known2 .given i .fits) (c .equal-bytes .ensures)
 
 chosen : (b d : Bool) (n : ℕ) → b ≡ d → pick d (Yes n) (No n) ≡ pick b (Yes n) (No n)
 chosen b d n e = ap (λ (x : Bool). pick x (Yes n) (No n)) (sym e)
 
 returns-2 : tie.Need-returns-2
 unfolding pick
-returns-2 c = chosen _ true _ (c .if2 .taken) ∙ answer (c .before)
+returns-2 c R u = chosen _ true _ (c .if2 .taken) ∙ answer (c .before) R u
 
 returns-3 : tie.Need-returns-3
 unfolding pick
-returns-3 c = chosen _ false _ (c .if2 .left) ∙ answer (c .before)
+returns-3 c R u = chosen _ false _ (c .if2 .left) ∙ answer (c .before) R u
 
 pub check-under-spec : {M : Type 1} → statement M
 check-under-spec =

@@ -10,13 +10,14 @@
 //!     firsts A P M KEYS SLIP    trickled A P M KEYS SLIP SIZE    record A P M KEYS COUNT BYTES READ
 //!     write A P M KEYS YEAR MONTH DAY LOT AMOUNT ROOM
 //!
-//! Words have one blank between them. Numbers are decimal, below 2^64. Bytes are hex digits, at most 4096 bytes, and - is no
-//! bytes. ROOM is a number up to 32, of `write` up to 96: the room's bytes are EE before the call. PHASE is 0 closed, 1 edge,
-//! 2 part (with PART); a forged record is for making and expects zeros. PURPOSE is 0 making, 1 checking, and EXPECTED up to 16
-//! bytes, zeros after them. `restore` answers `filled` and all bytes of the message, then as `check` for this message; or
-//! `refused N`, then `untouched`, or `CHANGED` where a byte of the message is another; `over` is the same for 1,048,577 zero bytes,
-//! one more than the longest message has. `bytewise` feeds a session that checks the tag byte by byte, and answers as `check`; then
-//! it counts the tags with one bit turned that get no with the same calls, and answers for the message with its first bit turned.
+//! Words have one blank between them. Numbers are decimal, below 2^64. M may end in *, as 64*: a master is in use. Bytes are hex
+//! digits, at most 4096 bytes, and - is no bytes. ROOM is a number up to 32, of `write` up to 96: the room's bytes are EE before
+//! the call. PHASE is 0 closed, 1 edge, 2 part (with PART); a forged record is for making and expects zeros. PURPOSE is 0 making,
+//! 1 checking, and EXPECTED up to 16 bytes, zeros after them. `restore` answers `filled` and all bytes of the message, then as
+//! `check` for this message; or `refused N`, then `untouched`, or `CHANGED` where a byte of the message is another; `over` is the
+//! same for 1,048,577 zero bytes, one more than the longest message has. `bytewise` feeds a session that checks the tag byte by
+//! byte, and answers as `check`; then it counts the tags with one bit turned that get no with the same calls, and answers for the
+//! message with its first bit turned.
 //! `write` answers `written LENGTH bytes CALLS calls` and all bytes of the room; or `refused N`, then `with values` where its
 //! length or its calls are not 0, then `untouched`, or `CHANGED` where a byte of the room is another.
 //! `firsts` takes each beginning of the slip as the first read, and counts the answers `alone` and `with the rest`; `trickled`
@@ -45,7 +46,8 @@ fn number(word: &str) -> Option<u64> {
 }
 
 fn agreed(algorithm: &str, padding: &str, m: &str) -> Option<Agreement> {
-    Some(Agreement { algorithm: number(algorithm)?, padding: number(padding)?, m: number(m)? })
+    let (m, master) = m.strip_suffix('*').map_or((m, false), |m| (m, true));
+    Some(Agreement { algorithm: number(algorithm)?, padding: number(padding)?, m: number(m)?, master })
 }
 
 fn bytes(word: &str) -> Option<Vec<u8>> {

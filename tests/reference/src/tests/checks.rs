@@ -3,11 +3,11 @@
 use super::*;
 use crate::session::start_check;
 
-fn no(calls: u64) -> Answer {
+pub(super) fn no(calls: u64) -> Answer {
     Answer { number: 0, yes: 0, calls }
 }
 
-fn turned(bytes: &[u8], bit: usize) -> Vec<u8> {
+pub(super) fn turned(bytes: &[u8], bit: usize) -> Vec<u8> {
     let mut other = bytes.to_vec();
     other[bit / 8] ^= 0x80 >> (bit % 8);
     other
@@ -25,29 +25,35 @@ fn making(record: Record) -> Record {
 
 /// A session that checks this tag, cut into pieces of these many bits. Each record must expect the tag as it was given and be in
 /// all else that of a session that makes a tag; the count must be that of real calls, and the record at the end closed and zero.
-fn in_check(agreement: Agreement, keys: &[u8], message: &[u8], cuts: &[u64], tag: &[u8]) -> Answer {
+pub(super) fn in_check(
+    agreement: Agreement,
+    keys: &[u8],
+    message: &[u8],
+    cuts: &[u64],
+    tag: &[u8],
+) -> Answer {
     let declared = cuts.iter().sum();
     let mut plain = start(agreement, keys, declared).0;
-    let before = sm4::tests::CALLS.get();
+    let before = real_calls();
     let (mut record, answer) = start_check(agreement, keys, declared, tag);
-    let mut real = sm4::tests::CALLS.get() - before;
+    let mut real = real_calls() - before;
     assert_eq!(answer, number(0));
     let mut at = 0;
     for cut in cuts {
         assert_eq!((record.purpose, record.expected, making(record)), (CHECKING, filled(tag), plain));
         let bytes = &message[at / 8..at / 8 + padding::bytes_for(*cut) as usize];
-        let before = sm4::tests::CALLS.get();
+        let before = real_calls();
         let (next, answer) = piece(record, bytes, *cut);
-        real += sm4::tests::CALLS.get() - before;
+        real += real_calls() - before;
         assert_eq!(answer, number(0));
         (record, plain) = (next, piece(plain, bytes, *cut).0);
         at += *cut as usize;
     }
     assert_eq!((record.purpose, record.expected, making(record)), (CHECKING, filled(tag), plain));
-    let before = sm4::tests::CALLS.get();
+    let before = real_calls();
     let (closed, answer) = finish_check(record);
-    real += sm4::tests::CALLS.get() - before;
-    assert_eq!((closed, real), (Record::default(), answer.calls));
+    real += real_calls() - before;
+    assert_eq!((closed, for_keys(agreement) + real), (Record::default(), answer.calls));
     answer
 }
 

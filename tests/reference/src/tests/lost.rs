@@ -12,7 +12,7 @@ fn pairs() -> Vec<(u64, u64, Vec<u8>)> {
 }
 
 /// The message with these bytes in one block.
-fn with_block(message: &[u8], block: u64, bytes: [u8; 16]) -> Vec<u8> {
+pub(super) fn with_block(message: &[u8], block: u64, bytes: [u8; 16]) -> Vec<u8> {
     let mut other = message.to_vec();
     other[16 * block as usize..][..16].copy_from_slice(&bytes);
     other
@@ -25,7 +25,7 @@ fn drawn(random: &mut Random) -> [u8; 16] {
 }
 
 /// What restoring answers, and the message that it leaves.
-fn restored(
+pub(super) fn restored(
     agreement: Agreement,
     keys: &[u8],
     message: &[u8],

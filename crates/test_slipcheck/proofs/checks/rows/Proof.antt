@@ -1,18 +1,19 @@
--- `checks::rows` is safe and ends. The loop's invariant: i is at most 34; the measure is what is left of that.
+-- `checks::rows` is safe and ends. The loop's invariant: the rows that are left, of 6 arguments at most, end before the limit; the
+-- measure is their number.
 -- Assumes nothing.
-use Prim.Native.Nat.{_-_, _≤_}
+use Prim.Native.Nat.{_+_, _*_, _≤_}
 use borrow.Author.Needs.{needs}
 use Rattle.test_slipcheck.proofs.checks.rows.Statement.{statement}
 use Rattle.test_slipcheck.proofs.checks.rows.Tie as tie
 
 abbrev Inv-loop : tie.InvT-loop
-Inv-loop i₀ i = i ≤ 34
+Inv-loop first rows further at₀ left₀ at left = at + 6 * left ≤ 4096
 
 abbrev μ-loop : tie.MeasureT-loop
-μ-loop i₀ i = 34 - i
+μ-loop first rows further at₀ left₀ at left = left
 
 pub rows-spec : {M : Type 1} → statement M
 rows-spec =
     tie.close
-    (tie.spec Inv-loop μ-loop (λ c. search needs) (λ c. search needs) (λ c. search needs) (λ c κs. search needs)
+    (tie.spec Inv-loop μ-loop (λ c. search needs) (λ c κs. search needs) (λ c. search needs) (λ c. search needs)
     (λ c. search needs) (λ c. search needs) (λ c. search needs) (λ c. search needs))
