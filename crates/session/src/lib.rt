@@ -437,12 +437,8 @@ fn calls_in(s: Session, unpacking: u8) -> usize
     ensures { λ r. ⌜ r ≡ callsIn s ⌝ }
 {
     let agreement = s.agreement;
-    chain::calls(
-        cipher::SM4,
-        settings::Settings::of(agreement),
-        unpacking,
-        s.total,
-    )
+    let named = settings::Settings::of(agreement);
+    chain::calls(cipher::SM4, named, unpacking, s.total)
 }
 
 // Whether the tag of an open session is the expected one; every byte of it is looked at.

@@ -5,6 +5,7 @@ mod certificates;
 mod checks;
 mod masters;
 mod pairs;
+mod rows;
 
 fn main() {
     tool::run();

@@ -1,8 +1,8 @@
 // The word master after M: rows of arguments as in checks.rt, certificates.rt and pairs.rt, each with this word more or another in its
 // place; and some without it, under the keys that a master makes, or on what was sealed under a master.
-use crate::certificates;
-use crate::checks;
 use crate::pairs;
+use crate::rows;
+use rows::Program;
 
 const CHECKS: usize = 1367;
 
@@ -15,14 +15,14 @@ const CERTIFICATES_WITHOUT: usize = 1584;
 const PAIRS: usize = 1596;
 
 pub(crate) fn run() {
-    checks::not_four(CHECKS + 1, 6);
-    certificates::not_five(CERTIFICATES + 1, 7);
-    pairs::not_seven(PAIRS + 1, 9);
-    checks::rows(CHECKS, 18, 1);
-    checks::rows(CHECKS_WITHOUT, 5, 0);
-    certificates::rows(CERTIFICATES, 12, 1);
-    certificates::rows(CERTIFICATES_WITHOUT, 2, 0);
-    pairs::rows(PAIRS, 10, 1);
+    rows::words(Program::Slipcheck, CHECKS + 1, 6);
+    rows::words(Program::Certcheck, CERTIFICATES + 1, 7);
+    rows::words(Program::Slipprint, PAIRS + 1, 9);
+    rows::rows(Program::Slipcheck, CHECKS, 18, 1);
+    rows::rows(Program::Slipcheck, CHECKS_WITHOUT, 5, 0);
+    rows::rows(Program::Certcheck, CERTIFICATES, 12, 1);
+    rows::rows(Program::Certcheck, CERTIFICATES_WITHOUT, 2, 0);
+    rows::rows(Program::Slipprint, PAIRS, 10, 1);
     pairs::compare(b"printed_by_master", b"by_master");
     pairs::compare(b"printed_four", b"four_by_master");
 }

@@ -1,69 +1,46 @@
 // slipprint on words of this program's own arguments, then slipcheck on the file that it was to make, under the same agreement. After
-// the arguments that checks.rt and certificates.rt take, eight make a row: the file of the typed keys, and slipprint's seven words.
-ghost use Prim.Native.Nat.{_+_, _*_, _≤_};
+// the arguments that checks.rt and certificates.rt take, eight make a row.
+ghost use Prim.Native.Nat.{_≤_};
 ghost use Rattle.io.specs.Counts.{Counts};
+use crate::rows;
+use rows::Program;
 
 const FIRST_ROW: usize = 535;
-
-const ROWS: usize = 104;
 
 // What a slip's file can have, and one byte more.
 const MOST: usize = 76;
 
 pub(crate) fn run() {
-    not_seven(1, 0);
-    not_seven(1, 1);
-    not_seven(2, 1);
-    not_seven(3, 1);
-    not_seven(FIRST_ROW + 1, 6);
-    not_seven(FIRST_ROW + 1, 8);
-    rows(FIRST_ROW, ROWS, 0);
+    rows::words(Program::Slipprint, 1, 0);
+    rows::words(Program::Slipprint, 1, 1);
+    rows::words(Program::Slipprint, 2, 1);
+    rows::words(Program::Slipprint, 3, 1);
+    rows::words(Program::Slipprint, FIRST_ROW + 1, 6);
+    rows::words(Program::Slipprint, FIRST_ROW + 1, 8);
+    rows::rows(Program::Slipprint, FIRST_ROW, 104, 0);
     compare(b"printed", b"slip");
     compare(b"two", b"two_keys");
     compare(b"zeros", b"slip");
 }
 
-// Other numbers of words than seven: misuse, or a word that asks how the program is used; an eighth that is not master.
-pub(crate) fn not_seven(at: usize, count: usize)
-    requires { ⌜ (at ≤ 65536) × (count ≤ 9) ⌝ }
-{
-    print_words(at, count);
-    tool::answer_print(libc::STDIN_FILENO, at, count);
-}
-
-// So many rows from this argument on, with so many words after M in each.
-pub(crate) fn rows(first: usize, rows: usize, further: usize)
-    requires { ⌜ (first + 9 * rows ≤ 4096) × (further ≤ 1) ⌝ }
-{
-    let mut at = first;
-    let mut left = rows;
-    while 0 < left {
-        pair(at, further);
-        at += 8 + further;
-        left -= 1;
-    }
-}
-
-fn pair(at: usize, further: usize)
-    requires { ⌜ (at ≤ 4096) × (further ≤ 1) ⌝ }
-{
-    print_words(at, 8 + further);
-    let typed = open_keys(at);
-    tool::answer_print(typed, at + 1, 7 + further);
-    libc::close(typed);
-    print(b"--\n");
-    let again = open_keys(at);
-    check_made(again, at, further);
-    libc::close(again);
-}
-
-// The file and the agreement of a row.
-fn check_made(typed: i32, at: usize, further: usize)
+// slipcheck on the file that a row of so many arguments was to make, with the row's keys and its agreement.
+pub(crate) fn check_made(at: usize, size: usize)
     requires { ⌜ at ≤ 4096 ⌝ }
 {
+    print(b"--\n");
+    let typed = open_keys(at);
     let mut name = io::buffer();
     let n = os::arg(at + 1, &mut name);
-    tool::answer_named(typed, &name[..n], at + 5, further);
+    tool::answer_named(typed, &name[..n], at + 5, further(size));
+    libc::close(typed);
+}
+
+// The words after M in a row of so many arguments.
+fn further(size: usize) -> usize {
+    if 8 < size {
+        return size - 8;
+    }
+    0
 }
 
 // The file of a row's typed keys, open.
