@@ -1,17 +1,19 @@
 -- A session under a master that is given alone (algorithms 2 and 6): an accepted start keeps the master and sixteen zeros
--- (`start-keeps`), and what stands in place of these zeros is not read: a record with other bytes there is finished as the record is
--- (`last-unread`). And so of every answer that the contracts of `start` and `finish` allow: `started-keeps`, `finished-alike`.
+-- (`start-keeps`), and what stands in place of these zeros is not read: with other bytes there a record takes pieces as before and keeps
+-- these bytes (`piece-unread`), and both finishes answer as before (`finish-unread`, `check-unread`). And so of every answer that the
+-- contracts allow: `started-keeps`, `pieced-alike`, `finished-alike`, `checked-alike`.
 -- Assumes nothing.
 use mathlib.Core.Path.{_≡_, refl, sym, ap, ap₂, _∙_}
-use mathlib.Core.Bool.{Bool, true, false}
+use mathlib.Core.Bool.{Bool, true, false, not}
 use mathlib.Core.List.{List, _++_}
-use Prim.Native.Nat.{ℕ}
+use Prim.Native.Nat.{ℕ, _+_}
 use native.Mathlib.Omega.{arith}
 use lib.ListN.{length, replicate, drop-of-length-le}
 use lib.Seq.{take-all}
 use contract.Lifetimes.{Lfts}
 use borrow.Fn.Kinds.{Dens}
 use Rattle.bits.specs.Choice.{pick}
+use Rattle.bits.specs.Str.{Bits}
 use Rattle.block.specs.Block.{front}
 use Rattle.block.proofs.Fronts.{front-full}
 use Rattle.cipher.specs.Cipher.{Cipher}
@@ -21,21 +23,25 @@ use Rattle.mac.specs.Run.{Run}
 use Rattle.mac.specs.Padding.{methodAt, suffix, complete}
 use Rattle.mac.specs.Algorithm.{algorithmAt, row, Keys, steps}
 use Rattle.mac.specs.Session.{absorb, finish}
+use Rattle.mac.specs.Tag.{bitsOf}
 use Rattle.keys.specs.Given.{unpackOf, givenOf}
 use Rattle.keys.proofs.GivenKeys.{master-alone}
 use Rattle.settings.specs.Answers.{numberOf}
 use Rattle.settings.specs.declared.Agreement.{Agreement}
 use Rattle.settings.specs.declared.Outcome.the-variants.{Refused}
 use Rattle.settings.proofs.Numbers.{Unrefused}
+use Rattle.message.specs.Faults.{roomShort}
 use Rattle.session.specs.declared.Session.{Session}
 use Rattle.session.specs.declared.Step.{Step}
-use Rattle.session.specs.Record.{keysIn, standing, stateIn, closedFaults, countsClosed}
-use Rattle.session.specs.Calls.{freshOf, startOf, endFaults, finishFaults, tagIn, callsIn, finishOf}
+use Rattle.session.specs.Record.{keysIn, standing, stateIn, isCheck, closedFaults, countsClosed}
+use Rattle.session.specs.Calls.{freshOf, startOf, pieceFaults, fedOf, pieceOf, endFaults, finishFaults, tagIn, callsIn, finishOf, finishCheckFaults, judgedOf, finishCheckOf}
 use Rattle.session.proofs.Stood.{stood}
 use Rattle.session.proofs.Joined.{start-stood}
-use Rattle.session.proofs.Run.{Started, Finished}
+use Rattle.session.proofs.Run.{Started, Pieced, Finished, FinishedCheck}
 use Rattle.session.proofs.start.Kinds as start-k
+use Rattle.session.proofs.Session.piece.Kinds as piece-k
 use Rattle.session.proofs.Session.finish.Kinds as finish-k
+use Rattle.session.proofs.Session.finish_check.Kinds as check-k
 
 kept-alone : (s : List ℕ) → length s ≡ 16 → givenOf s ≡ s ++ replicate 16 0
 unfolding givenOf front
@@ -58,15 +64,29 @@ withKeys k s = record {
   expected = s .expected;
 }
 
--- the answer and the room do not depend on the record that a refusal hands back
-module _ (good : Step × List ℕ) (n : ℕ) (room : List ℕ) where
-  abbrev chosen : Bool → Session → Step × List ℕ
-  chosen b r = pick b good (record { answer = Refused n; session = r }, room)
+-- a step with other bytes in place of its record's keys
+abbrev withKeysIn : List ℕ → Step → Step
+withKeysIn k r = record { answer = r .answer; session = withKeys k (r .session) }
 
-  alike : (b : Bool) (p q : Session) → (chosen b p .0 .answer ≡ chosen b q .0 .answer) × (chosen b p .1 ≡ chosen b q .1)
+-- what is chosen by the number of the first fault: neither the answer nor the room depends on the record that a refusal hands back
+module _ (n : ℕ) (p q : Session) where
+  refused : Session → Step
+  refused r = record { answer = Refused n; session = r }
+
+  pieces : (k : List ℕ) (b : Bool) (good : Step) → pick b (withKeysIn k good) (withKeysIn k (refused p)) ≡ withKeysIn k (pick b good (refused p))
   unfolding pick
-  alike true p q = (refl, refl)
-  alike false p q = (refl, refl)
+  pieces k true good = refl
+  pieces k false good = refl
+
+  checks : (b : Bool) (good : Step) → pick b good (refused p) .answer ≡ pick b good (refused q) .answer
+  unfolding pick refused
+  checks true good = refl
+  checks false good = refl
+
+  rooms : (b : Bool) (good : Step × List ℕ) (room : List ℕ) → (pick b good (refused p, room) .0 .answer ≡ pick b good (refused q, room) .0 .answer) × (pick b good (refused p, room) .1 ≡ pick b good (refused q, room) .1)
+  unfolding pick refused
+  rooms true good room = (refl, refl)
+  rooms false good room = (refl, refl)
 
 module _ (s : Session) (k : List ℕ) (master : s .agreement .master ≡ true) (alone : row (algorithmAt (s .agreement .algorithm)) .third ≡ false) (same : front k ≡ front (s .keys)) where
   abbrev A : Agreement
@@ -94,13 +114,29 @@ module _ (s : Session) (k : List ℕ) (master : s .agreement .master ≡ true) (
   unfolding callsIn withKeys
   calls-same = rw unpacked-same refl
 
-  faults-same : (room : ℕ) → finishFaults (withKeys k s) room ≡ finishFaults s room
-  unfolding finishFaults endFaults withKeys
-  faults-same room = rw closed-same refl
+  fed-same : (x : Bits) → fedOf (withKeys k s) x ≡ withKeys k (fedOf s x)
+  unfolding fedOf standing stateIn withKeys
+  fed-same x = ap (λ (K : Keys). withKeys k (standing s (s .total + length x) (absorb n (steps (cipherAt 1) (algorithmAt (A .algorithm)) K .out) (stateIn s) x))) keys-same
 
-  pub last-unread : (room : List ℕ) → let other = finishOf (withKeys k s) room in let own = finishOf s room in (other .0 .answer ≡ own .0 .answer) × (other .1 ≡ own .1)
-  unfolding finishOf withKeys
-  last-unread room = rw (faults-same (length room), tag-same, calls-same) (alike _ _ room _ (withKeys k s) s)
+  piece-faults : (c bits : ℕ) → pieceFaults (withKeys k s) c bits ≡ pieceFaults s c bits
+  unfolding pieceFaults withKeys
+  piece-faults c bits = rw closed-same refl
+
+  end-faults : (other ten : Bool) → endFaults (withKeys k s) other ten ≡ endFaults s other ten
+  unfolding endFaults withKeys
+  end-faults other ten = rw closed-same refl
+
+  pub piece-unread : (bytes : List ℕ) (bits : ℕ) → pieceOf (withKeys k s) bytes bits ≡ withKeysIn k (pieceOf s bytes bits)
+  unfolding pieceOf refused
+  piece-unread bytes bits = rw (piece-faults (length bytes) bits, fed-same (bitsOf bytes bits)) (pieces _ s s k _ _)
+
+  pub finish-unread : (room : List ℕ) → let other = finishOf (withKeys k s) room in let own = finishOf s room in (other .0 .answer ≡ own .0 .answer) × (other .1 ≡ own .1)
+  unfolding finishOf finishFaults withKeys refused
+  finish-unread room = rw (end-faults (isCheck (s .purpose)) (roomShort (A .m) (length room)), tag-same, calls-same) (rooms _ (withKeys k s) s _ _ room)
+
+  pub check-unread : finishCheckOf (withKeys k s) .answer ≡ finishCheckOf s .answer
+  unfolding finishCheckOf finishCheckFaults judgedOf withKeys refused
+  check-unread = rw (end-faults (not (isCheck (s .purpose))) false, tag-same, calls-same) (checks _ (withKeys k s) s _ _)
 
 -- ---- and so of every answer that the contracts allow
 
@@ -110,12 +146,31 @@ module _ (κs : Lfts 1) (a : Dens κs start-k.ps) (x : Started κs a) where
       let e = x .ensures in
       ap (λ (t : Step). t .session .keys) e ∙ start-keeps (a .0) (a .1 .0 .now) (a .1 .1 .0) (ap (λ (t : Step). numberOf (t .answer)) (sym e) ∙ u) h
 
+-- a record under a master that is given alone, and the record with other bytes that begin as its keys do
+pub record Alike (s t : Session) : Type 0 where
+  pub master : s .agreement .master ≡ true
+  pub alone : row (algorithmAt (s .agreement .algorithm)) .third ≡ false
+  pub bytes : List ℕ
+  pub same : front bytes ≡ front (s .keys)
+  pub other : t ≡ withKeys bytes s
+
+module _ (κs : Lfts 1) (a : Dens κs piece-k.ps) (x : Pieced κs a) (λs : Lfts 1) (b : Dens λs piece-k.ps) (y : Pieced λs b) where
+  pub pieced-alike : (h : Alike (a .0) (b .0)) → b .1 .0 .now ≡ a .1 .0 .now → b .1 .1 .0 ≡ a .1 .1 .0 → y .result ≡ withKeysIn (h .bytes) (x .result)
+  pieced-alike h bytes bits =
+      y .ensures ∙ (λ i. pieceOf (h .other i) (bytes i) (bits i)) ∙ piece-unread (a .0) (h .bytes) (h .master) (h .alone) (h .same) (a .1 .0 .now) (a .1 .1 .0)
+      ∙ ap (withKeysIn (h .bytes)) (sym (x .ensures))
+
 module _ (κs : Lfts 1) (a : Dens κs finish-k.ps) (x : Finished κs a) (λs : Lfts 1) (b : Dens λs finish-k.ps) (y : Finished λs b) where
-  pub finished-alike : a .0 .agreement .master ≡ true → row (algorithmAt (a .0 .agreement .algorithm)) .third ≡ false
-      → (k : List ℕ) → front k ≡ front (a .0 .keys) → b .0 ≡ withKeys k (a .0) → b .1 .0 .now ≡ a .1 .0 .now → (y .result .answer ≡ x .result .answer) × (y .last .1 .0 ≡ x .last .1 .0)
-  finished-alike master alone k same other room =
-      let both = last-unread (a .0) k master alone same (a .1 .0 .now) in
-      let ended = y .ensures ∙ ap₂ finishOf other room in (
+  pub finished-alike : Alike (a .0) (b .0) → b .1 .0 .now ≡ a .1 .0 .now → (y .result .answer ≡ x .result .answer) × (y .last .1 .0 ≡ x .last .1 .0)
+  finished-alike h room =
+      let both = finish-unread (a .0) (h .bytes) (h .master) (h .alone) (h .same) (a .1 .0 .now) in
+      let ended = y .ensures ∙ ap₂ finishOf (h .other) room in (
         ap (λ (r : Step × List ℕ). r .0 .answer) ended ∙ both .0 ∙ sym (ap (λ (r : Step × List ℕ). r .0 .answer) (x .ensures)),
         ap (λ (r : Step × List ℕ). r .1) ended ∙ both .1 ∙ sym (ap (λ (r : Step × List ℕ). r .1) (x .ensures)),
       )
+
+module _ (κs : Lfts 0) (a : Dens κs check-k.ps) (x : FinishedCheck κs a) (λs : Lfts 0) (b : Dens λs check-k.ps) (y : FinishedCheck λs b) where
+  pub checked-alike : Alike (a .0) (b .0) → y .result .answer ≡ x .result .answer
+  checked-alike h =
+      ap (λ (r : Step). r .answer) (y .ensures ∙ ap finishCheckOf (h .other)) ∙ check-unread (a .0) (h .bytes) (h .master) (h .alone) (h .same)
+      ∙ sym (ap (λ (r : Step). r .answer) (x .ensures))

@@ -67,6 +67,15 @@ fn main() {
     master_lost(&keys[0..16]);
 }
 
+fn agreement(algorithm: usize, padding: usize, m: usize, master: usize) -> slipseal::Agreement {
+    slipseal::Agreement {
+        algorithm,
+        padding,
+        m,
+        master,
+    }
+}
+
 fn number(n: usize) {
     io::write_all(libc::STDOUT_FILENO, b" ");
     io::print_decimal(libc::STDOUT_FILENO, n as u64);
@@ -98,12 +107,7 @@ fn bytes(s: &[u8]) {
 }
 
 fn one_call(key: &[u8]) {
-    let agreed = slipseal::Agreement {
-        algorithm: 1,
-        padding: 1,
-        m: 64,
-        master: 0,
-    };
+    let agreed = agreement(1, 1, 64, 0);
     let mut tag = [0xEEu8; 9];
     tell(
         b"make:",
@@ -126,12 +130,7 @@ fn one_call(key: &[u8]) {
 
 // The message of A.1, its first block or its second lost: each restored; the first worked out of a false tag; and what is refused.
 fn lost_blocks(key: &[u8]) {
-    let full = slipseal::Agreement {
-        algorithm: 1,
-        padding: 1,
-        m: 128,
-        master: 0,
-    };
+    let full = agreement(1, 1, 128, 0);
     let tag = TAG;
     let other = [0xEEu8; 16];
     restore(b"block 0:", full, key, FIRST_LOST, 256, 0, &tag);
@@ -145,18 +144,8 @@ fn lost_blocks(key: &[u8]) {
 }
 
 fn not_full_tags(key: &[u8]) {
-    let half = slipseal::Agreement {
-        algorithm: 1,
-        padding: 1,
-        m: 64,
-        master: 0,
-    };
-    let seven = slipseal::Agreement {
-        algorithm: 7,
-        padding: 4,
-        m: 128,
-        master: 0,
-    };
+    let half = agreement(1, 1, 64, 0);
+    let seven = agreement(7, 4, 128, 0);
     let tag = TAG;
     restore(b"64 bits:", half, key, FIRST_LOST, 256, 0, &tag[0..8]);
     restore(b"algorithm 7:", seven, key, FIRST_LOST, 256, 0, &tag);
@@ -217,12 +206,7 @@ fn finish_in_fifteen(s: slipseal::Session) -> slipseal::Session {
 }
 
 fn in_session(keys: &[u8]) {
-    let agreed = slipseal::Agreement {
-        algorithm: 4,
-        padding: 2,
-        m: 128,
-        master: 0,
-    };
+    let agreed = agreement(4, 2, 128, 0);
     let ones = [0xFFu8; 16];
     let begun = handed(b"start:", slipseal::slipseal_start(agreed, keys, 0));
     let some = handed(
@@ -253,12 +237,7 @@ fn expected(s: slipseal::Session) {
 
 // A check of this tag, of twelve bits, with one byte of the message and then two, and the tag in the struct.
 fn fed_check(key: &[u8], tag: &[u8]) -> slipseal::Session {
-    let agreed = slipseal::Agreement {
-        algorithm: 1,
-        padding: 1,
-        m: 12,
-        master: 0,
-    };
+    let agreed = agreement(1, 1, 12, 0);
     let begun = handed(
         b"start of a check:",
         slipseal::slipseal_start_check(agreed, key, 0, tag),
@@ -309,12 +288,7 @@ fn tell_slip(what: &[u8], answer: slipseal::Slip) {
 }
 
 fn read_gathered(what: &[u8], key: &[u8], g: slip::Gathered) {
-    let agreed = slipseal::Agreement {
-        algorithm: 5,
-        padding: 4,
-        m: 64,
-        master: 0,
-    };
+    let agreed = agreement(5, 4, 64, 0);
     tell_slip(what, slipseal::slipseal_read_gathered(agreed, key, g));
 }
 
@@ -348,12 +322,7 @@ fn forged(key: &[u8], count: usize) {
 
 // The slip into a room of a byte more, and into one of a byte less.
 fn write(key: &[u8]) {
-    let agreed = slipseal::Agreement {
-        algorithm: 5,
-        padding: 4,
-        m: 64,
-        master: 0,
-    };
+    let agreed = agreement(5, 4, 64, 0);
     let mut room = [0xEEu8; 38];
     write_into(agreed, key, &mut room);
     let mut short = [0xEEu8; 36];
@@ -372,12 +341,7 @@ fn write_into(agreed: slipseal::Agreement, key: &[u8], room: &mut [u8]) {
 
 // Padding 1, with 64 bits.
 fn mastered(algorithm: usize, master: usize) -> slipseal::Agreement {
-    slipseal::Agreement {
-        algorithm,
-        padding: 1,
-        m: 64,
-        master,
-    }
+    agreement(algorithm, 1, 64, master)
 }
 
 // A.7's data 1 under its master, told by each number.
@@ -481,12 +445,7 @@ fn sealed(algorithm: usize, keys: &[u8]) {
 }
 
 fn master_lost(key: &[u8]) {
-    let full = slipseal::Agreement {
-        algorithm: 6,
-        padding: 1,
-        m: 128,
-        master: 1,
-    };
+    let full = agreement(6, 1, 128, 1);
     let tag = MASTER_TAG;
     restore(b"block 0:", full, key, FIRST_LOST, 256, 0, &tag);
     restore(b"block 1:", full, key, SECOND_LOST, 256, 1, &tag);
