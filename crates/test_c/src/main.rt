@@ -58,13 +58,7 @@ fn main() {
     forged(&keys[0..16], 37);
     forged(&keys[0..16], 1000);
     write(&keys[0..16]);
-    masters(&keys[0..16]);
-    masters_of_two(&keys);
-    master_in_session(&keys[0..16]);
-    master_in_check(&keys[0..16]);
-    sealed(6, &keys[0..16]);
-    sealed(4, &keys);
-    master_lost(&keys[0..16]);
+    under_a_master();
 }
 
 fn agreement(algorithm: usize, padding: usize, m: usize, master: usize) -> slipseal::Agreement {
@@ -337,6 +331,17 @@ fn write_into(agreed: slipseal::Agreement, key: &[u8], room: &mut [u8]) {
     number(answer.calls);
     print(b"\n");
     bytes(room);
+}
+
+fn under_a_master() {
+    let keys = KEYS;
+    masters(&keys[0..16]);
+    masters_of_two(&keys);
+    master_in_session(&keys[0..16]);
+    master_in_check(&keys[0..16]);
+    sealed(6, &keys[0..16]);
+    sealed(4, &keys);
+    master_lost(&keys[0..16]);
 }
 
 // Padding 1, with 64 bits.
