@@ -69,24 +69,24 @@ abbrev withKeysIn : List ℕ → Step → Step
 withKeysIn k r = record { answer = r .answer; session = withKeys k (r .session) }
 
 -- what is chosen by the number of the first fault: neither the answer nor the room depends on the record that a refusal hands back
-module _ (n : ℕ) (p q : Session) where
+module _ (n : ℕ) where
   refused : Session → Step
   refused r = record { answer = Refused n; session = r }
 
-  pieces : (k : List ℕ) (b : Bool) (good : Step) → pick b (withKeysIn k good) (withKeysIn k (refused p)) ≡ withKeysIn k (pick b good (refused p))
+  pieces : (k : List ℕ) (b : Bool) (good : Step) (p : Session) → pick b (withKeysIn k good) (withKeysIn k (refused p)) ≡ withKeysIn k (pick b good (refused p))
   unfolding pick
-  pieces k true good = refl
-  pieces k false good = refl
+  pieces k true good p = refl
+  pieces k false good p = refl
 
-  checks : (b : Bool) (good : Step) → pick b good (refused p) .answer ≡ pick b good (refused q) .answer
+  checks : (b : Bool) (good : Step) (p q : Session) → pick b good (refused p) .answer ≡ pick b good (refused q) .answer
   unfolding pick refused
-  checks true good = refl
-  checks false good = refl
+  checks true good p q = refl
+  checks false good p q = refl
 
-  rooms : (b : Bool) (good : Step × List ℕ) (room : List ℕ) → (pick b good (refused p, room) .0 .answer ≡ pick b good (refused q, room) .0 .answer) × (pick b good (refused p, room) .1 ≡ pick b good (refused q, room) .1)
+  rooms : (b : Bool) (good : Step × List ℕ) (room : List ℕ) (p q : Session) → (pick b good (refused p, room) .0 .answer ≡ pick b good (refused q, room) .0 .answer) × (pick b good (refused p, room) .1 ≡ pick b good (refused q, room) .1)
   unfolding pick refused
-  rooms true good room = (refl, refl)
-  rooms false good room = (refl, refl)
+  rooms true good room p q = (refl, refl)
+  rooms false good room p q = (refl, refl)
 
 module _ (s : Session) (k : List ℕ) (master : s .agreement .master ≡ true) (alone : row (algorithmAt (s .agreement .algorithm)) .third ≡ false) (same : front k ≡ front (s .keys)) where
   abbrev A : Agreement
@@ -128,15 +128,15 @@ module _ (s : Session) (k : List ℕ) (master : s .agreement .master ≡ true) (
 
   pub piece-unread : (bytes : List ℕ) (bits : ℕ) → pieceOf (withKeys k s) bytes bits ≡ withKeysIn k (pieceOf s bytes bits)
   unfolding pieceOf refused
-  piece-unread bytes bits = rw (piece-faults (length bytes) bits, fed-same (bitsOf bytes bits)) (pieces _ s s k _ _)
+  piece-unread bytes bits = rw (piece-faults (length bytes) bits, fed-same (bitsOf bytes bits)) (pieces _ k _ _ s)
 
   pub finish-unread : (room : List ℕ) → let other = finishOf (withKeys k s) room in let own = finishOf s room in (other .0 .answer ≡ own .0 .answer) × (other .1 ≡ own .1)
   unfolding finishOf finishFaults withKeys refused
-  finish-unread room = rw (end-faults (isCheck (s .purpose)) (roomShort (A .m) (length room)), tag-same, calls-same) (rooms _ (withKeys k s) s _ _ room)
+  finish-unread room = rw (end-faults (isCheck (s .purpose)) (roomShort (A .m) (length room)), tag-same, calls-same) (rooms _ _ _ room (withKeys k s) s)
 
   pub check-unread : finishCheckOf (withKeys k s) .answer ≡ finishCheckOf s .answer
   unfolding finishCheckOf finishCheckFaults judgedOf withKeys refused
-  check-unread = rw (end-faults (not (isCheck (s .purpose))) false, tag-same, calls-same) (checks _ (withKeys k s) s _ _)
+  check-unread = rw (end-faults (not (isCheck (s .purpose))) false, tag-same, calls-same) (checks _ _ _ (withKeys k s) s)
 
 -- ---- and so of every answer that the contracts allow
 

@@ -5,10 +5,7 @@ use rows::Program;
 const FIRST_ROW: usize = 175;
 
 pub(crate) fn run() {
-    rows::words(Program::Certcheck, 1, 0);
-    rows::words(Program::Certcheck, 1, 1);
-    rows::words(Program::Certcheck, 2, 1);
-    rows::words(Program::Certcheck, 3, 1);
+    rows::alone(Program::Certcheck);
     rows::words(Program::Certcheck, FIRST_ROW + 1, 4);
     rows::words(Program::Certcheck, FIRST_ROW + 1, 6);
     rows::rows(Program::Certcheck, FIRST_ROW, 60, 0);

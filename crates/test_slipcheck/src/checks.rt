@@ -6,10 +6,7 @@ use rows::Program;
 const FIRST_ROW: usize = 5;
 
 pub(crate) fn run() {
-    rows::words(Program::Slipcheck, 1, 0);
-    rows::words(Program::Slipcheck, 1, 1);
-    rows::words(Program::Slipcheck, 2, 1);
-    rows::words(Program::Slipcheck, 3, 1);
+    rows::alone(Program::Slipcheck);
     rows::words(Program::Slipcheck, 4, 1);
     rows::words(Program::Slipcheck, FIRST_ROW + 1, 3);
     rows::words(Program::Slipcheck, FIRST_ROW + 1, 5);

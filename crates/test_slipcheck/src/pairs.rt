@@ -11,10 +11,7 @@ const FIRST_ROW: usize = 535;
 const MOST: usize = 76;
 
 pub(crate) fn run() {
-    rows::words(Program::Slipprint, 1, 0);
-    rows::words(Program::Slipprint, 1, 1);
-    rows::words(Program::Slipprint, 2, 1);
-    rows::words(Program::Slipprint, 3, 1);
+    rows::alone(Program::Slipprint);
     rows::words(Program::Slipprint, FIRST_ROW + 1, 6);
     rows::words(Program::Slipprint, FIRST_ROW + 1, 8);
     rows::rows(Program::Slipprint, FIRST_ROW, 104, 0);

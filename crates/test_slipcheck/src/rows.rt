@@ -36,6 +36,14 @@ pub(crate) fn words(program: Program, at: usize, count: usize)
     answer(program, libc::STDIN_FILENO, at, count);
 }
 
+// No word at all, then each of the first three arguments alone.
+pub(crate) fn alone(program: Program) {
+    words(program, 1, 0);
+    words(program, 1, 1);
+    words(program, 2, 1);
+    words(program, 3, 1);
+}
+
 // So many rows from this argument on, with so many words after M in each.
 pub(crate) fn rows(program: Program, first: usize, rows: usize, further: usize)
     requires { ⌜ (first + 9 * rows ≤ 4096) × (further ≤ 1) ⌝ }
