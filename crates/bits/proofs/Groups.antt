@@ -1,12 +1,13 @@
--- Every second group of four bits complemented is xor with F0 in each byte: eight bits at a time.
+-- Every second group of four bits complemented is xor with F0 in each byte: eight bits at a time (`everySecond-xor`). So the first four
+-- bits are complemented (`second-flipped`), and no string but the empty one stays as it is (`second-differs`), at any width.
 -- Assumes nothing.
 use mathlib.Core.Path.{_≡_, refl, sym, ap, ap₂, _∙_}
-use mathlib.Core.Bool.{Bool, true, not}
+use mathlib.Core.Bool.{Bool, true, false, not, true≢false}
 use mathlib.Core.List.{[], _∷_, _++_, map, flatMap, zipWith}
 use Prim.Native.Nat.{ℕ, zero, suc, _*_, _/_, _≤_}
 use native.Mathlib.Omega.{arith}
-use lib.ListN.{length, take, drop, replicate, length-drop, take-append-drop}
-use lib.Seq.{drop-drop, length-take-le}
+use lib.ListN.{length, take, drop, getD, replicate, length-drop, length-map, take-append-drop}
+use lib.Seq.{drop-drop, length-take-le, take-at}
 use Rattle.bits.specs.Str.{Bits, digit, bitsN, bytesBits, zeros, xorB, halvesFlipped, everySecond}
 use Rattle.bits.proofs.Strings.{xor-true, xorB-append, xorB-zeros, length-zeros}
 
@@ -57,3 +58,24 @@ everySecond-xor w n h = ap (λ (m : ℕ). halvesFlipped m w) eighth ∙ halvesFl
   where
     eighth : length w / 8 ≡ n
     eighth = omega arith
+
+pub second-flipped : (w : Bits) → 8 ≤ length w → take 4 (everySecond w) ≡ map not (take 4 w)
+unfolding everySecond halvesFlipped
+second-flipped w h = go (length w / 8) (omega arith)
+  where
+    go : (k : ℕ) → 1 ≤ k → take 4 (halvesFlipped k w) ≡ map not (take 4 w)
+    go zero some = absurd (omega arith)
+    go (suc k) some = take-at (map not (take 4 w)) _ 4 (length-map (take 4 w) not ∙ length-take-le 4 w (omega arith))
+
+not-not : (b : Bool) → ¬ (b ≡ not b)
+not-not true e = true≢false e
+not-not false e = true≢false (sym e)
+
+pub second-differs : (w : Bits) → 1 ≤ length w → ¬ (w ≡ everySecond w)
+unfolding everySecond halvesFlipped
+second-differs [] h e = absurd (omega arith)
+second-differs (b ∷ w) h e = go (length (b ∷ w) / 8) e
+  where
+    go : (k : ℕ) → ¬ (b ∷ w ≡ halvesFlipped k (b ∷ w))
+    go zero f = absurd (omega (arith, ap (λ (v : Bits). length v) f))
+    go (suc k) f = not-not b (ap (λ (v : Bits). getD v 0 b) f)

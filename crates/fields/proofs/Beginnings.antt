@@ -13,7 +13,7 @@ use lib.Dec.{eqb, leb}
 use borrow.Author.Tests.{lt-ltb, le-ltb, eq-eqb, leb-true, leb-false}
 use Rattle.bits.specs.Choice.{Fault, _given_, firstOf}
 use Rattle.bits.proofs.Lists.{drop-take}
-use Rattle.bits.proofs.Faults.{Numbered, also, none, here, later, given-first, passed, done, clear-first, first-append, first-append-clear, numbered-append}
+use Rattle.bits.proofs.Faults.{all, with, Numbered, here, later, given-first, passed, done, clear-first, first-append, first-append-clear, every-append}
 use Rattle.fields.specs.Format.{expiryRow, lotRow, amountRow, sealRow}
 use Rattle.fields.specs.Field.{outside, anyOutside, twoBytes, lengthOf, endOf, fieldFaults}
 use Rattle.fields.specs.Date.{twoDigits, yearOf, monthOf, dayOf, dateWrong}
@@ -109,7 +109,7 @@ module _ (row : Row) (f g : List ℕ) (ok : Formed row f) (along : Along f g) wh
       go : (b : Bool) → leb (3 + lengthOf f) (length g) ≡ b → firstOf ((fieldFaults row g ++ own) ++ rest) ≡ n
       go true e =
           let there = leb-true (3 + lengthOf f) (length g) e in
-          first-append-clear (fieldFaults row g ++ own) rest (numbered-append (field-numbered row g) o) (first-append-clear (fieldFaults row g) own (field-numbered row g) (clear there) ∙ good there)
+          first-append-clear (fieldFaults row g ++ own) rest (every-append (field-numbered row g) o) (first-append-clear (fieldFaults row g) own (field-numbered row g) (clear there) ∙ good there)
           ∙ after there
       go false e =
           let missing = leb-false (3 + lengthOf f) (length g) e in
@@ -176,15 +176,15 @@ module _ (s t : List ℕ) (ok : LaidOut s) where
   layout-by : Along s t → (n : ℕ) → (length t < length s → n ≡ 20) → (Beside (sealField s) (sealField t) → firstOf (sealFaults (sealField t)) ≡ n) → firstOf (layoutFaults t) ≡ n
   unfolding layoutFaults expiryFaults lotFaults amountFaults
   layout-by along n short last =
-      let all : Beside s t = record { along = along; shift = omega arith } in
-      then-next expiryRow s t (ok .expiry) along _ _ n (also {k = 23} (omega arith) none) (λ h. short (omega (arith, ok .expiry .whole)))
+      let both : Beside s t = record { along = along; shift = omega arith } in
+      then-next expiryRow s t (ok .expiry) along _ _ n (with refl all) (λ h. short (omega (arith, ok .expiry .whole)))
       (λ there. date-alike s t along (ok .expiry) there (ok .date)) (λ there.
-      let lot = lot-beside all there in
+      let lot = lot-beside both there in
       ap (λ (fs : List Fault). firstOf (fs ++ (amountFaults (amountField t) ++ sealFaults (sealField t)))) (sym (append-nil (fieldFaults lotRow (lotField t))))
-      ∙ then-next lotRow (lotField s) (lotField t) (ok .lot) (lot .along) [] _ n none (λ h. short (omega (arith, ok .lot .whole, lot .shift)))
+      ∙ then-next lotRow (lotField s) (lotField t) (ok .lot) (lot .along) [] _ n all (λ h. short (omega (arith, ok .lot .whole, lot .shift)))
       (λ there. clear-first done) (λ there.
       let amount = amount-beside lot there in
-      then-next amountRow (amountField s) (amountField t) (ok .amount) (amount .along) _ _ n (also {k = 22} (omega arith) none) (λ h. short (omega (arith, ok .amount .whole, amount .shift)))
+      then-next amountRow (amountField s) (amountField t) (ok .amount) (amount .along) _ _ n (with refl all) (λ h. short (omega (arith, ok .amount .whole, amount .shift)))
       (λ there. amount-alike (amountField s) (amountField t) (amount .along) (ok .amount) there (ok .microlitres)) (λ there.
       last (seal-beside amount there))))
 

@@ -11,7 +11,7 @@ use lib.Seq.{drop-cons}
 use lib.Dec.{ltb}
 use borrow.Author.Tests.{ltb-false, le-ltb, eqb-true, not-false}
 use Rattle.bits.specs.Choice.{pick, Fault, _given_, firstOf}
-use Rattle.bits.proofs.Faults.{Clear, passed, done, Numbered, also, none, first-append, first-append-clear}
+use Rattle.bits.proofs.Faults.{Clear, passed, done, Every, all, with, Numbered, first-append, first-append-clear}
 use Rattle.fields.specs.Field.{outside, anyOutside, lengthOf, value, endOf, fieldFaults}
 use Rattle.fields.specs.declared.Row.{Row}
 
@@ -63,9 +63,13 @@ pub record Formed (row : Row) (field : List ℕ) : Type 0 where
   pub whole : 3 + lengthOf field ≤ length field
   pub bytes : anyOutside (row .low) (row .high) (value field) ≡ false
 
-pub field-numbered : (row : Row) (field : List ℕ) → Numbered (fieldFaults row field)
+-- what holds of 20, 21 and 22 holds of its numbers
+pub field-every : {P : ℕ → Type 0} → P 20 → P 21 → P 22 → (row : Row) (field : List ℕ) → Every P (fieldFaults row field)
 unfolding fieldFaults
-field-numbered row field = also {k = 20} (omega arith) (also {k = 21} (omega arith) (also {k = 22} (omega arith) (also {k = 20} (omega arith) (also {k = 22} (omega arith) none))))
+field-every p20 p21 p22 row field = with p20 (with p21 (with p22 (with p20 (with p22 all))))
+
+pub field-numbered : (row : Row) (field : List ℕ) → Numbered (fieldFaults row field)
+field-numbered row field = field-every refl refl refl row field
 
 pub formed : (row : Row) (field : List ℕ) → Clear (fieldFaults row field) → Formed row field
 unfolding fieldFaults

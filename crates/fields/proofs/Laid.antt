@@ -1,43 +1,56 @@
 -- A slip without a fault in its fields: what is known of it, and where its fields stand. The four lists of refusals follow each
 -- other, so what the checks found clear is taken apart once, here.
 -- Assumes nothing.
-use mathlib.Core.Path.{_≡_}
-use mathlib.Core.Bool.{Bool, false}
-use mathlib.Core.List.{List, [], _∷_}
+use mathlib.Core.Path.{_≡_, refl}
+use mathlib.Core.Bool.{false}
+use mathlib.Core.List.{List}
 use Prim.Native.Nat.{ℕ, _+_, _≤_}
 use native.Mathlib.Omega.{arith}
 use lib.ListN.{length, length-take}
 use borrow.Author.Tests.{ltb-false}
-use Rattle.bits.specs.Choice.{_given_, firstOf}
-use Rattle.bits.proofs.Faults.{Clear, passed, done, Numbered, also, none, first-clear, clear-append, numbered-append}
+use Rattle.bits.specs.Choice.{firstOf}
+use Rattle.bits.proofs.Faults.{clear-one, Every, all, with, Numbered, first-clear, clear-append, every-append}
 use Rattle.fields.specs.Format.{expiryRow, lotRow, amountRow, sealRow}
 use Rattle.fields.specs.Field.{lengthOf, endOf, fieldFaults}
 use Rattle.fields.specs.Date.{yearOf, monthOf, dayOf, dateWrong}
 use Rattle.fields.specs.Layout.{lotAt, amountAt, sealAt, lotField, amountField, sealField, covered, amountOf, expiryFaults, lotFaults, amountFaults, sealFaults, layoutFaults}
-use Rattle.fields.proofs.Formed.{Within, within, Formed, formed, field-numbered, end-whole}
+use Rattle.fields.proofs.Formed.{Within, within, Formed, formed, field-every, end-whole}
 use Rattle.fields.proofs.Inside.{seal-there}
 
--- ---- numbers of refusals are positive
+-- ---- the numbers of the refusals: what holds of 20 to 24 holds of them all
+
+module _ {P : ℕ → Type 0} (p20 : P 20) (p21 : P 21) (p22 : P 22) where
+  pub expiry-every : P 23 → (field : List ℕ) → Every P (expiryFaults field)
+  unfolding expiryFaults
+  expiry-every p23 field = every-append (field-every p20 p21 p22 expiryRow field) (with p23 all)
+
+  pub lot-every : (field : List ℕ) → Every P (lotFaults field)
+  unfolding lotFaults
+  lot-every field = field-every p20 p21 p22 lotRow field
+
+  pub amount-every : (field : List ℕ) → Every P (amountFaults field)
+  unfolding amountFaults
+  amount-every field = every-append (field-every p20 p21 p22 amountRow field) (with p22 all)
+
+  seal-every : P 24 → (field : List ℕ) → Every P (sealFaults field)
+  unfolding sealFaults
+  seal-every p24 field = every-append (field-every p20 p21 p22 sealRow field) (with p24 all)
+
+  pub layout-every : P 23 → P 24 → (s : List ℕ) → Every P (layoutFaults s)
+  unfolding layoutFaults
+  layout-every p23 p24 s = every-append (expiry-every p23 s) (every-append (lot-every (lotField s)) (every-append (amount-every (amountField s)) (seal-every p24 (sealField s))))
 
 pub expiry-numbered : (field : List ℕ) → Numbered (expiryFaults field)
-unfolding expiryFaults
-expiry-numbered field = numbered-append (field-numbered expiryRow field) (also {k = 23} (omega arith) none)
+expiry-numbered field = expiry-every refl refl refl refl field
 
 pub lot-numbered : (field : List ℕ) → Numbered (lotFaults field)
-unfolding lotFaults
-lot-numbered field = field-numbered lotRow field
+lot-numbered field = lot-every refl refl refl field
 
 pub amount-numbered : (field : List ℕ) → Numbered (amountFaults field)
-unfolding amountFaults
-amount-numbered field = numbered-append (field-numbered amountRow field) (also {k = 22} (omega arith) none)
-
-pub seal-numbered : (field : List ℕ) → Numbered (sealFaults field)
-unfolding sealFaults
-seal-numbered field = numbered-append (field-numbered sealRow field) (also {k = 24} (omega arith) none)
+amount-numbered field = amount-every refl refl refl field
 
 pub layout-numbered : (s : List ℕ) → Numbered (layoutFaults s)
-unfolding layoutFaults
-layout-numbered s = numbered-append (expiry-numbered s) (numbered-append (lot-numbered (lotField s)) (numbered-append (amount-numbered (amountField s)) (seal-numbered (sealField s))))
+layout-numbered s = layout-every refl refl refl refl refl s
 
 -- ---- what is known
 
@@ -49,9 +62,6 @@ pub record LaidOut (s : List ℕ) : Type 0 where
   pub microlitres : Within 1 1000000 (amountOf (amountField s))
   pub seal : Formed sealRow (sealField s)
   pub ended : length (sealField s) ≤ endOf (sealField s)
-
-clear-one : {n : ℕ} {b : Bool} → Clear (n given b ∷ []) → b ≡ false
-clear-one (passed e done) = e
 
 pub laid-out : (s : List ℕ) → firstOf (layoutFaults s) ≡ 0 → LaidOut s
 unfolding layoutFaults expiryFaults lotFaults amountFaults sealFaults

@@ -1,5 +1,6 @@
 -- The bytes that a record keeps make the same keys as the bytes that were given (`given-keys`). A master that is given alone makes K and
--- K′ (`alone-makes`), and only the first sixteen bytes are read (`master-alone`). Two calls are made under a master, else none (`unpack-calls`).
+-- K′ (`alone-makes`), and only the first sixteen bytes are read (`master-alone`). Two calls are made under a master, else none
+-- (`unpack-calls`). K′ and K″ are never the same, whatever the bytes, under a master or without (`never-same`).
 -- Assumes nothing.
 use mathlib.Core.Path.{_≡_, refl, sym, ap, ap₂, _∙_}
 use mathlib.Core.Bool.{Bool, true, false, _||_, not}
@@ -12,14 +13,16 @@ use lib.ListN.{length, drop, replicate, length-append, length-replicate}
 use lib.Seq.{length-take-le, take-all, take-at, drop-at}
 use Rattle.bits.specs.Choice.{pick}
 use Rattle.bits.specs.Str.{bytesBits}
+use Rattle.bits.proofs.Packed.{length-bytesBits}
 use Rattle.block.specs.Block.{front}
 use Rattle.block.proofs.Fronts.{front-full}
 use Rattle.cipher.specs.Ciphers.{cipherAt}
+use Rattle.cipher.proofs.Laws.{lawful-at, width-at}
 use Rattle.mac.specs.declared.Row.{Row}
-use Rattle.mac.specs.Algorithm.{algorithmAt, row, keys}
+use Rattle.mac.specs.Algorithm.{algorithmAt, row, Keys, keys}
 use Rattle.mac.specs.Run.{Run, _giving_}
 use Rattle.mac.specs.Derive.{derived, keysUsed}
-use Rattle.mac.proofs.Derive.{used-calls}
+use Rattle.mac.proofs.Derive.{used-calls, second-third-differ}
 use Rattle.keys.specs.Given.{unpackOf, givenOf}
 use Rattle.keys.specs.Faults.{keyBytes, masterWrong, keyBytesWrong}
 
@@ -57,6 +60,15 @@ needed-bytes master a n e = go (masterWrong master a) e
 pub unpack-calls : (master : Bool) (a : ℕ) (s : List ℕ) → length (unpackOf master a s .calls) ≡ pick master 2 0
 unfolding unpackOf
 unpack-calls master a s = used-calls (cipherAt 1) master (algorithmAt a) (bytesBits (front s)) (bytesBits (front (drop 16 s)))
+
+pub never-same : (master : Bool) (a : ℕ) (s : List ℕ)
+    → let K = unpackOf master a s .out in
+    ¬ (K .k′ ≡ K .k″)
+unfolding unpackOf
+never-same master a s =
+    let second = front (drop 16 s) in
+    second-third-differ (cipherAt 1) (lawful-at 1) (omega (arith, width-at 1)) master (algorithmAt a) (bytesBits (front s)) (bytesBits second)
+    (omega (arith, length-bytesBits second, length-front (drop 16 s)))
 
 -- algorithms 2 and 6
 module _ (a : ℕ) (alone : row (algorithmAt a) .third ≡ false) where

@@ -1,7 +1,8 @@
 -- Unpacking the keys, over any block cipher: two calls under a master, else none (`used-calls`). The list of calls for a tag begins
 -- with them: e_M(1) and e_M(2), then the calls of the tag under the keys in use (`derivation-first`); it is so much longer
 -- (`from-count`), and what comes out is the tag under the keys in use (`from-tag`). The two keys that a master makes always differ
--- (`derived-differ`), so refusal 5 never comes of a master that is given alone.
+-- (`derived-differ`), so refusal 5 never comes of a master that is given alone; and K′ and K″ always differ, under a master or without
+-- (`second-third-differ`), so nothing needs to refuse keys for that (02 §7).
 -- Assumes nothing.
 use mathlib.Core.Path.{_≡_, refl, sym, ap, _∙_}
 use mathlib.Core.Bool.{Bool, true, false}
@@ -13,6 +14,7 @@ use lib.ListN.{length, length-append}
 use Rattle.bits.specs.Choice.{pick}
 use Rattle.bits.specs.Str.{Bits, bitsN}
 use Rattle.bits.proofs.Numbers.{length-bitsN, bitsN-inj}
+use Rattle.bits.proofs.Groups.{second-differs}
 use Rattle.cipher.specs.Cipher.{Cipher, Lawful}
 use Rattle.mac.specs.Run.{Call, Run, forward, _then_, _giving_}
 use Rattle.mac.specs.Padding.{Method, blockCount}
@@ -69,3 +71,21 @@ module _ (C : Cipher) where
 
       same : bitsN (C .n) 1 ≡ bitsN (C .n) 2
       same = sym (L .decrypt-encrypt M _ (length-bitsN (C .n) 1)) ∙ ap (C .decrypt M) e ∙ L .decrypt-encrypt M _ (length-bitsN (C .n) 2)
+
+  second-long : Lawful C → (M : Bits) → length (derived C M .out .1) ≡ C .n
+  unfolding derived
+  second-long L M = L .encrypt-long M _ (length-bitsN (C .n) 2)
+
+  -- complemented, K″ has other first bits than K′; derived, the two come of two blocks
+  pub second-third-differ : Lawful C → 2 ≤ C .n → (master : Bool) (A : Algorithm) (g h : Bits) → 1 ≤ length h
+      → let K = keysUsed C master A g h .out in
+      ¬ (K .k′ ≡ K .k″)
+  unfolding keysUsed pick
+  second-third-differ L two false A g h some = second-differs h some
+  second-third-differ L two true A g h some = go (row A .third)
+    where
+      go : (b : Bool)
+          → let K = pick b (derived C h giving λ d. record { k = g; k′ = d .0; k″ = d .1 }) (derived C g giving λ d. keys (d .0) (d .1)) .out in
+          ¬ (K .k′ ≡ K .k″)
+      go true = derived-differ L two h
+      go false = second-differs (derived C g .out .1) (omega (arith, second-long L g))

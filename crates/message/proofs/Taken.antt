@@ -1,12 +1,11 @@
 -- A message that is not refused: what each of the tests 7 to 10 that found nothing says of it (`taken`).
 -- Assumes nothing.
-use mathlib.Core.Path.{_≡_}
+use mathlib.Core.Path.{_≡_, refl}
 use mathlib.Core.Bool.{Bool, false}
 use Prim.Native.Nat.{ℕ, _≤_}
-use native.Mathlib.Omega.{arith}
 use borrow.Author.Tests.{ltb-false, eqb-true, not-false}
 use Rattle.bits.specs.Choice.{firstOf}
-use Rattle.bits.proofs.Faults.{Clear, passed, done, Numbered, also, none, first-clear}
+use Rattle.bits.proofs.Faults.{Clear, passed, done, Every, all, with, Numbered, first-clear}
 use Rattle.cipher.specs.Cipher.{Cipher}
 use Rattle.cipher.specs.Ciphers.{cipherAt}
 use Rattle.mac.specs.declared.Row.{Row}
@@ -22,18 +21,22 @@ pub record Taken (S : Settings) (c l : ℕ) (ten : Bool) : Type 0 where
   pub enough : row (algorithmAt (S .algorithm)) .least ≤ blockCount (methodAt (S .padding)) (cipherAt 1 .n) l
   pub room : ten ≡ false
 
-pub numbered : (S : Settings) (c l : ℕ) (ten : Bool) → Numbered (messageFaults S c l ten)
+-- what holds of 7 to 10 holds of their numbers
+pub message-every : {P : ℕ → Type 0} → P 7 → P 8 → P 9 → P 10 → (S : Settings) (c l : ℕ) (ten : Bool) → Every P (messageFaults S c l ten)
 unfolding messageFaults
-numbered S c l ten = also {k = 7} (omega arith) (also {k = 8} (omega arith) (also {k = 9} (omega arith) (also {k = 10} (omega arith) none)))
+message-every p7 p8 p9 p10 S c l ten = with p7 (with p8 (with p9 (with p10 all)))
+
+pub message-numbered : (S : Settings) (c l : ℕ) (ten : Bool) → Numbered (messageFaults S c l ten)
+message-numbered S c l ten = message-every refl refl refl refl S c l ten
 
 pub enough-held : (S : Settings) (l : ℕ) → tooFewBlocks S l ≡ false → row (algorithmAt (S .algorithm)) .least ≤ blockCount (methodAt (S .padding)) (cipherAt 1 .n) l
 unfolding tooFewBlocks
 enough-held S l h = ltb-false _ _ h
 
-cleared : (S : Settings) (c l : ℕ) (ten : Bool) → Clear (messageFaults S c l ten) → Taken S c l ten
+pub clear-taken : (S : Settings) (c l : ℕ) (ten : Bool) → Clear (messageFaults S c l ten) → Taken S c l ten
 unfolding messageFaults lengthWrong tooManyBits
-cleared S c l ten (passed e7 (passed e8 (passed e9 (passed e10 done)))) =
+clear-taken S c l ten (passed e7 (passed e8 (passed e9 (passed e10 done)))) =
     record { long = eqb-true c (bytesFor l) (not-false _ e7); few = ltb-false 8388608 l e8; enough = enough-held S l e9; room = e10 }
 
 pub taken : (S : Settings) (c l : ℕ) (ten : Bool) → firstOf (messageFaults S c l ten) ≡ 0 → Taken S c l ten
-taken S c l ten e = cleared S c l ten (first-clear (messageFaults S c l ten) (numbered S c l ten) e)
+taken S c l ten e = clear-taken S c l ten (first-clear (messageFaults S c l ten) (message-numbered S c l ten) e)

@@ -14,7 +14,7 @@ use Rattle.bits.specs.Choice.{pick, _given_, firstOf}
 use Rattle.bits.specs.Str.{bytesBits, zeros, sameB}
 use Rattle.block.specs.Block.{storage, front, filledBlock}
 use Rattle.bits.proofs.Choice.{miss}
-use Rattle.bits.proofs.Faults.{Numbered, none, also, numbered-append, first-append, first-append-clear}
+use Rattle.bits.proofs.Faults.{all, with, Numbered, every-append, first-append, first-append-clear}
 use Rattle.bits.proofs.Same.{Bytes, sameB-bytes}
 use Rattle.bits.proofs.Strings.{length-zeros}
 use Rattle.mac.specs.declared.Row.{Row}
@@ -28,8 +28,8 @@ use Rattle.cipher.proofs.Laws.{sm4-width, width-at, lawful-at}
 use Rattle.mac.proofs.TagBytes.{take-fits, tagBytes-block, tagBytes-fit}
 use Rattle.mac.proofs.Derive.{from-count}
 use Rattle.keys.specs.Given.{givenOf}
-use Rattle.settings.specs.InUse.{inUse}
-use Rattle.settings.specs.Faults.{settingsFaults, settingsRefusal}
+use Rattle.settings.specs.InUse.{inUse, agreementFaults}
+use Rattle.settings.specs.Faults.{settingsRefusal}
 use Rattle.settings.specs.Answers.{numberOf, settingsOf, checkedOf}
 use Rattle.settings.specs.declared.Agreement.{Agreement}
 use Rattle.settings.specs.declared.Settings.{Settings}
@@ -38,7 +38,7 @@ use Rattle.settings.specs.declared.Checked.the-variants.{Sound, Unsound}
 use Rattle.settings.specs.declared.Outcome.{Outcome}
 use Rattle.settings.specs.declared.Outcome.the-variants.{Accepted, Yes, No}
 use Rattle.settings.proofs.Numbers.{number-chosen, sound-chosen}
-use Rattle.settings.proofs.Sound.{settings-alone, settings-numbered, unsound-is, sound-is}
+use Rattle.settings.proofs.Sound.{agreement-numbered, unsound-is, sound-is}
 use Rattle.message.specs.Faults.{tooFewBlocks, tagLengthWrong}
 use Rattle.message.proofs.Taken.{enough-held}
 use Rattle.chain.proofs.Standing.{reached-at, finish-long}
@@ -62,7 +62,7 @@ module _ (A : Agreement) (s : List ℕ) (d : ℕ) (u : Keys) (eu : u ≡ inUse A
   unfolding startOf startedBy startFaults settingsRefusal
   start-refused k e =
       let both = unsound-is A (length s) (inUse A s) k (sym told ∙ e) in
-      let first = sym (both .0) ∙ sym (first-append (settingsFaults A (length s) (inUse A s)) (8 given declaredTooLong (A .padding) d ∷ []) (both .1)) in
+      let first = sym (both .0) ∙ sym (first-append (agreementFaults A s) (8 given declaredTooLong (A .padding) d ∷ []) (both .1)) in
       miss _ _ _ _ (ne-eqb _ 0 (λ z. both .1 (both .0 ∙ first ∙ z))) (ap refusedStart first)
 
   pub settings-are : (S : Settings) → c ≡ Sound S → S ≡ settingsOf A
@@ -72,7 +72,7 @@ module _ (A : Agreement) (s : List ℕ) (d : ℕ) (u : Keys) (eu : u ≡ inUse A
   unfolding startOf startUnder startFaults settingsRefusal
   start-sound S e g eg =
       let both = sound-is A (length s) (inUse A s) S (sym told ∙ e) in
-      let later = first-append-clear (settingsFaults A (length s) (inUse A s)) (8 given declaredTooLong (A .padding) d ∷ []) (settings-alone A (length s) (inUse A s)) (both .0) in
+      let later = first-append-clear (agreementFaults A s) (8 given declaredTooLong (A .padding) d ∷ []) (agreement-numbered A s) (both .0) in
       λ i. startedBy (sym later i) A (eg i) (eu i) d
 
 -- ---- the start of a check: begun is what the start handed back, and no its number
@@ -82,13 +82,13 @@ module _ (A : Agreement) (s : List ℕ) (d : ℕ) where
   unfolding startOf startedBy refusedStart numberOf
   start-faults = number-chosen of-step (firstOf (startFaults A s d)) _ _ refl refl
 
-  pub start-alone : Numbered (startFaults A s d)
+  pub start-numbered : Numbered (startFaults A s d)
   unfolding startFaults
-  start-alone = settings-numbered A (length s) (inUse A s) _ (also {k = 8} (omega arith) none)
+  start-numbered = every-append (agreement-numbered A s) (with refl all)
 
-  pub check-numbered : (tag : ℕ) → Numbered (startCheckFaults A s d tag)
+  pub start-check-numbered : (tag : ℕ) → Numbered (startCheckFaults A s d tag)
   unfolding startCheckFaults
-  check-numbered tag = numbered-append start-alone (also {k = 10} (omega arith) none)
+  start-check-numbered tag = every-append start-numbered (with refl all)
 
 module _ (A : Agreement) (s : List ℕ) (d : ℕ) (tag : List ℕ) (begun : Step) (same : begun ≡ startOf A s d) (no : ℕ) (told : no ≡ numberOf (begun .answer)) where
   start-no : no ≡ firstOf (startFaults A s d)
@@ -104,7 +104,7 @@ module _ (A : Agreement) (s : List ℕ) (d : ℕ) (tag : List ℕ) (begun : Step
     -- what is left of the order
     last-ten : firstOf (startCheckFaults A s d (length tag)) ≡ firstOf (10 given tagLengthWrong (A .m) (length tag) ∷ [])
     unfolding startCheckFaults
-    last-ten = first-append-clear (startFaults A s d) _ (start-alone A s d) (sym start-no ∙ accepted)
+    last-ten = first-append-clear (startFaults A s d) _ (start-numbered A s d) (sym start-no ∙ accepted)
 
     pub check-ten : (wrong : Bool) → wrong ≡ tagLengthWrong (A .m) (length tag) → wrong ≡ true → refusedStart 10 ≡ startCheckOf A s d tag
     unfolding startCheckOf firstOf pick

@@ -13,7 +13,7 @@ use lib.Dec.{eqb, ltb}
 use lib.ListN.{length}
 use Rattle.bits.specs.Choice.{pick, Fault, _given_, firstOf}
 use Rattle.bits.specs.Str.{Bits}
-use Rattle.bits.proofs.Faults.{Clear, clear-first, clear-append, first-append-clear}
+use Rattle.bits.proofs.Faults.{Clear, clear-first, clear-append, first-past, first-append-clear}
 use Rattle.mac.specs.declared.Row.{Row}
 use Rattle.mac.specs.Padding.{methodAt, blockCount}
 use Rattle.mac.specs.Algorithm.{algorithmAt, row}
@@ -24,13 +24,12 @@ use Rattle.mac.proofs.TagBytes.{length-bitsOf}
 use Rattle.cipher.specs.Cipher.{Cipher}
 use Rattle.cipher.specs.Ciphers.{cipherAt}
 use Rattle.cipher.proofs.Laws.{lawful-at}
-use Rattle.settings.specs.InUse.{inUse}
-use Rattle.settings.specs.Faults.{settingsFaults}
+use Rattle.settings.specs.InUse.{agreementFaults}
 use Rattle.settings.specs.Answers.{numberOf, settingsOf}
 use Rattle.settings.specs.declared.Agreement.{Agreement}
 use Rattle.settings.specs.declared.Outcome.{Outcome}
 use Rattle.settings.proofs.Numbers.{Unrefused}
-use Rattle.settings.proofs.Sound.{settings-alone}
+use Rattle.settings.proofs.Sound.{agreement-numbered}
 use Rattle.message.specs.Faults.{lengthWrong, tooManyBits, tooFewBlocks, roomShort, messageFaults}
 use Rattle.tag.specs.OneCall.{oneCallFaults, madeBy, makeOf}
 use Rattle.tag.proofs.Numbers.{madeOf, make-faults, sound-made, made-of}
@@ -57,10 +56,6 @@ abbrev pub lastTwo : Agreement → ℕ → Bool → ℕ
 lastTwo A l ten = firstOf (9 given tooFewBlocks (settingsOf A) l ∷ 10 given ten ∷ [])
 
 -- a fault that is not there is passed over
-past : (k : ℕ) (b : Bool) (fs : List Fault) → b ≡ false → firstOf (k given b ∷ fs) ≡ firstOf fs
-unfolding firstOf pick
-past k b fs e = rw e refl
-
 -- the faults of its finish, its purpose being to make
 stood-faults : (A : Agreement) (s : List ℕ) (d : ℕ) (x : Bits) (room : ℕ) → finishFaults (stood A s d x) room ≡ endFaults (stood A s d x) false (roomShort (A .m) room)
 unfolding finishFaults isCheck stood standing freshOf
@@ -73,16 +68,16 @@ module _ (A : Agreement) (s : List ℕ) (d : ℕ) (g : Clear (startFaults A s d)
   pub end-last : (A .padding ≡ 3 → d ≡ length x) → (ten : Bool) → firstOf (endFaults (stood A s d x) false ten) ≡ lastTwo A (length x) ten
   unfolding endFaults fallsShort declaredAt pick stood standing freshOf
   end-last met ten =
-      past 11 _ _ runs ∙ past 11 _ _ refl
-      ∙ past 12 _ _ (three-no (A .padding) _ (λ e. ap (λ (k : ℕ). ltb (length x) (pick (eqb k 3) d 0)) e ∙ le-ltb (length x) d (omega (arith, met e))))
+      first-past 11 _ _ runs ∙ first-past 11 _ _ refl
+      ∙ first-past 12 _ _ (three-no (A .padding) _ (λ e. ap (λ (k : ℕ). ltb (length x) (pick (eqb k 3) d 0)) e ∙ le-ltb (length x) d (omega (arith, met e))))
 
   -- 1 to 6 are not there, nor 7 and 8
   pub one-call-last : (bytes : List ℕ) (l : ℕ) → Holds bytes l x → (ten : Bool) → firstOf (oneCallFaults A s (length bytes) l ten) ≡ lastTwo A (length x) ten
   unfolding oneCallFaults startFaults messageFaults lengthWrong tooManyBits stood standing freshOf
   one-call-last bytes l h ten =
-      first-append-clear (settingsFaults A (length s) (inUse A s)) _ (settings-alone A (length s) (inUse A s)) (clear-first (clear-append (settingsFaults A (length s) (inUse A s)) _ g .0))
-      ∙ past 7 _ _ (ap not (eq-eqb (length bytes) (bytesFor l) (h .long)))
-      ∙ past 8 _ _ (le-ltb 8388608 l (omega (arith, few, length-held bytes l x h)))
+      first-append-clear (agreementFaults A s) _ (agreement-numbered A s) (clear-first (clear-append (agreementFaults A s) _ g .0))
+      ∙ first-past 7 _ _ (ap not (eq-eqb (length bytes) (bytesFor l) (h .long)))
+      ∙ first-past 8 _ _ (le-ltb 8388608 l (omega (arith, few, length-held bytes l x h)))
       ∙ ap (λ (k : ℕ). firstOf (9 given tooFewBlocks (settingsOf A) k ∷ 10 given ten ∷ [])) (sym (length-held bytes l x h))
     where
       few : length x ≤ 8388608
@@ -126,12 +121,12 @@ module _ (A : Agreement) (s : List ℕ) (d : ℕ) (g : Clear (startFaults A s d)
   never-nine ten e =
       no-nine (fallsShort (A .padding) (declaredAt (A .padding) d) (length x)) ten
       (ap (λ (b : Bool). firstOf (12 given fallsShort (A .padding) (declaredAt (A .padding) d) (length x) ∷ 9 given b ∷ 10 given ten ∷ [])) (sym (never-few A (length x) three))
-      ∙ sym (past 11 _ _ runs ∙ past 11 _ _ refl) ∙ e)
+      ∙ sym (first-past 11 _ _ runs ∙ first-past 11 _ _ refl) ∙ e)
 
   pub one-never-nine : (bytes : List ℕ) (l : ℕ) → Holds bytes l x → (ten : Bool) → ¬ (firstOf (oneCallFaults A s (length bytes) l ten) ≡ 9)
   one-never-nine bytes l h ten e =
       no-nine false ten
-      (past 12 false _ refl ∙ ap (λ (b : Bool). firstOf (9 given b ∷ 10 given ten ∷ [])) (sym (never-few A (length x) three)) ∙ sym (one-call-last A s d g x runs bytes l h ten) ∙ e)
+      (first-past 12 false _ refl ∙ ap (λ (b : Bool). firstOf (9 given b ∷ 10 given ten ∷ [])) (sym (never-few A (length x) three)) ∙ sym (one-call-last A s d g x runs bytes l h ten) ∙ e)
 
 -- ---- the statements: of every start that was accepted and any calls after it
 

@@ -12,7 +12,7 @@ use Rattle.bits.specs.Str.{bytesBits, leftmost}
 use Rattle.block.specs.Block.{storage, filledBlock}
 use Rattle.bits.proofs.Choice.{hit, miss}
 use Rattle.bits.proofs.Strings.{sameB-eq}
-use Rattle.bits.proofs.Faults.{Clear, passed, done, Numbered, none, also, first-clear}
+use Rattle.bits.proofs.Faults.{Clear, passed, done, all, with, Numbered, first-clear}
 use Rattle.cipher.specs.Cipher.{Cipher}
 use Rattle.cipher.specs.Ciphers.{cipherAt}
 use Rattle.mac.specs.Tag.{bytesFor}
@@ -74,8 +74,7 @@ pub record Open (s : Session) : Type 0 where
 
 pub closed-numbered : (s : Session) → Numbered (closedFaults s)
 unfolding closedFaults
-closed-numbered s =
-    also {k = 11} (omega arith) (also {k = 11} (omega arith) (also {k = 11} (omega arith) (also {k = 11} (omega arith) (also {k = 11} (omega arith) (also {k = 11} (omega arith) none)))))
+closed-numbered s = with refl (with refl (with refl (with refl (with refl (with refl all)))))
 
 pub opens : (s : Session) → countsClosed s ≡ false → Open s
 unfolding countsClosed closedFaults settingsUnsound tooManyBits declaredTooLong passesDeclared strayBit
@@ -114,8 +113,7 @@ pub record Taken (s : Session) (c bits : ℕ) : Type 0 where
 pub piece-none : (s : Session) (c bits : ℕ) → firstOf (pieceFaults s c bits) ≡ 0 → Clear (pieceFaults s c bits)
 unfolding pieceFaults
 piece-none s c bits e =
-    first-clear (pieceFaults s c bits)
-    (also {k = 11} (omega arith) (also {k = 11} (omega arith) (also {k = 7} (omega arith) (also {k = 8} (omega arith) (also {k = 12} (omega arith) none))))) e
+    first-clear (pieceFaults s c bits) (with refl (with refl (with refl (with refl (with refl all))))) e
 
 pub taken : (s : Session) (c bits : ℕ) → firstOf (pieceFaults s c bits) ≡ 0 → Taken s c bits
 unfolding pieceFaults tooManyBits passesDeclared
@@ -141,8 +139,7 @@ module _ (s : Session) (other ten : Bool) (e : firstOf (endFaults s other ten) �
   end-clear : Clear (endFaults s other ten)
   unfolding endFaults
   end-clear =
-      first-clear (endFaults s other ten)
-      (also {k = 11} (omega arith) (also {k = 11} (omega arith) (also {k = 12} (omega arith) (also {k = 9} (omega arith) (also {k = 10} (omega arith) none))))) e
+      first-clear (endFaults s other ten) (with refl (with refl (with refl (with refl (with refl all))))) e
 
   pub ended : Ended s
   unfolding endFaults fallsShort

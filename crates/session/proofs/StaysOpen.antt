@@ -12,7 +12,7 @@ use lib.Dec.{eqb, ltb}
 use lib.ListN.{length}
 use Rattle.bits.specs.Choice.{pick}
 use Rattle.bits.specs.Str.{Bits}
-use Rattle.bits.proofs.Faults.{Clear, passed, done, first-clear, clear-first}
+use Rattle.bits.proofs.Faults.{Clear, passed, done, first-clear, clear-first, clear-one, clear-append}
 use Rattle.block.specs.Block.{front}
 use Rattle.mac.specs.Run.{Run}
 use Rattle.mac.specs.Algorithm.{Keys}
@@ -23,11 +23,12 @@ use Rattle.cipher.specs.Ciphers.{cipherAt}
 use Rattle.cipher.proofs.Laws.{lawful-at, width-at}
 use Rattle.keys.specs.Given.{givenOf}
 use Rattle.keys.specs.Faults.{keyBytes}
-use Rattle.keys.proofs.GivenKeys.{given-keys, needed-bytes}
-use Rattle.settings.specs.InUse.{inUse}
-use Rattle.settings.specs.Faults.{settingsFaults, settingsRefusal}
+use Rattle.keys.proofs.GivenKeys.{given-keys}
+use Rattle.settings.specs.InUse.{inUse, agreementFaults}
+use Rattle.settings.specs.Faults.{settingsRefusal}
 use Rattle.settings.specs.declared.Agreement.{Agreement}
 use Rattle.settings.proofs.Numbers.{Unrefused}
+use Rattle.settings.proofs.Sound.{needed-clear}
 use Rattle.message.specs.Faults.{tooManyBits}
 use Rattle.chain.specs.declared.Hold.{Hold}
 use Rattle.chain.specs.Chain.{holdOf}
@@ -39,7 +40,7 @@ use Rattle.session.specs.declared.Step.{Step}
 use Rattle.session.specs.Record.{keysIn, stateIn, standing, aimed, phaseAt, phaseUnfit, settingsUnsound, declaredTooLong, passesDeclared, closedFaults, countsClosed}
 use Rattle.session.specs.Calls.{startFaults, freshOf, declaredAt, startOf, startCheckOf, stepsIn, pieceFaults, fedOf}
 use Rattle.session.proofs.Open.{closed-numbered, Taken, taken, piece-none}
-use Rattle.session.proofs.Answers.{start-faults, start-alone}
+use Rattle.session.proofs.Answers.{start-faults, start-numbered}
 use Rattle.session.proofs.Purposes.{aimed-closed}
 use Rattle.session.proofs.Stood.{stood, held-clean, stood-clean}
 use Rattle.session.proofs.Joined.{Offered, bitsIn, offer, Running, piece-taken, piece-sound, start-stood, start-check-stood, start-check-clear}
@@ -84,18 +85,18 @@ running-clear s e = first-clear (closedFaults s) (closed-numbered s) (eqb-true _
 
 module _ (A : Agreement) (s : List ℕ) (d : ℕ) where
   pub start-clear : Unrefused (startOf A s d .answer) → Clear (startFaults A s d)
-  start-clear u = first-clear _ (start-alone A s d) (sym (start-faults A s d) ∙ u)
+  start-clear u = first-clear _ (start-numbered A s d) (sym (start-faults A s d) ∙ u)
 
   settings-sound : Clear (startFaults A s d) → settingsUnsound A (inUse A (givenOf s)) ≡ false
-  unfolding startFaults settingsFaults settingsUnsound settingsRefusal
-  settings-sound (passed e1 (passed e2 (passed e3 (passed e4 (passed e5 (passed e6 rest)))))) =
+  unfolding startFaults settingsUnsound settingsRefusal
+  settings-sound g =
       let n : ℕ = keyBytes (A .master) (A .algorithm) in
       ap (λ (r : Run Keys). not (eqb (settingsRefusal A n (r .out)) 0)) (given-keys (A .master) (A .algorithm) s)
-      ∙ ap (λ (k : ℕ). not (eqb k 0)) (clear-first (passed e1 (passed e2 (passed e3 (passed (needed-bytes (A .master) (A .algorithm) (length s) e4) (passed e5 (passed e6 done)))))))
+      ∙ ap (λ (k : ℕ). not (eqb k 0)) (clear-first (needed-clear A (length s) (inUse A s) (clear-append (agreementFaults A s) _ g .0)))
 
   declared-short : Clear (startFaults A s d) → declaredTooLong (A .padding) d ≡ false
-  unfolding startFaults settingsFaults
-  declared-short (passed e1 (passed e2 (passed e3 (passed e4 (passed e5 (passed e6 (passed e8 done))))))) = e8
+  unfolding startFaults
+  declared-short g = clear-one (clear-append (agreementFaults A s) _ g .1)
 
   pub stood-open : Clear (startFaults A s d) → (x : Bits) → length x ≤ 8388608 → (A .padding ≡ 3 → length x ≤ d) → Running (stood A s d x)
   unfolding closedFaults stood standing freshOf tooManyBits declaredTooLong passesDeclared

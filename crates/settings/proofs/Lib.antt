@@ -1,4 +1,5 @@
 pub mod Sound
 pub mod MasterSound
+pub mod Retired
 pub mod Numbers
 pub mod Unique

@@ -3,32 +3,40 @@
 -- Assumes nothing.
 use mathlib.Core.Path.{_≡_, refl, sym, subst}
 use mathlib.Core.Bool.{Bool, true, false, _||_, not, false≢true}
-use mathlib.Core.List.{List, [], _++_}
+use mathlib.Core.List.{List}
 use Prim.Native.Nat.{ℕ, _≤_, _<_}
 use native.Mathlib.Omega.{arith}
 use lib.Dec.{eqb, ltb}
+use lib.ListN.{length}
 use borrow.Author.Tests.{ltb-false, eqb-true, eqb-false, not-false}
-use Rattle.bits.specs.Choice.{pick, Fault}
-use Rattle.bits.proofs.Faults.{Clear, passed, done, Numbered, also, none, first-clear}
+use Rattle.bits.specs.Choice.{pick}
+use Rattle.bits.proofs.Faults.{Clear, passed, Every, all, with, Numbered, first-clear}
 use Rattle.mac.specs.declared.Row.{Row}
 use Rattle.mac.specs.Algorithm.{algorithmAt, row, Keys}
 use Rattle.mac.proofs.Numbers.{by-number}
+use Rattle.keys.specs.Faults.{keyBytes}
+use Rattle.keys.proofs.GivenKeys.{needed-bytes}
 use Rattle.settings.specs.declared.Agreement.{Agreement}
 use Rattle.settings.specs.declared.Settings.{Settings}
 use Rattle.settings.specs.declared.Checked.{Checked}
 use Rattle.settings.specs.declared.Checked.the-variants.{Sound, Unsound}
 use Rattle.settings.specs.Faults.{settingsFaults, settingsRefusal, algorithmWrong, paddingWrong, sizeWrong}
+use Rattle.settings.specs.InUse.{inUse, agreementFaults}
 use Rattle.settings.specs.Answers.{settingsOf, checkedOf}
 
--- also where other faults come after them
-pub settings-numbered : (A : Agreement) (n : ℕ) (K : Keys) (fs : List Fault) → Numbered fs → Numbered (settingsFaults A n K ++ fs)
+-- what holds of 1 to 6 holds of their numbers
+pub settings-every : {P : ℕ → Type 0} → P 1 → P 2 → P 3 → P 4 → P 5 → P 6 → (A : Agreement) (n : ℕ) (K : Keys) → Every P (settingsFaults A n K)
 unfolding settingsFaults
-settings-numbered A n K fs h =
-    also {k = 1} (omega arith) (also {k = 2} (omega arith) (also {k = 3} (omega arith) (also {k = 4} (omega arith) (also {k = 5} (omega arith) (also {k = 6} (omega arith) h)))))
+settings-every p1 p2 p3 p4 p5 p6 A n K = with p1 (with p2 (with p3 (with p4 (with p5 (with p6 all)))))
 
-pub settings-alone : (A : Agreement) (n : ℕ) (K : Keys) → Numbered (settingsFaults A n K)
-unfolding settingsFaults
-settings-alone A n K = settings-numbered A n K [] none
+pub settings-numbered : (A : Agreement) (n : ℕ) (K : Keys) → Numbered (settingsFaults A n K)
+settings-numbered A n K = settings-every refl refl refl refl refl refl A n K
+
+pub agreement-every : {P : ℕ → Type 0} → P 1 → P 2 → P 3 → P 4 → P 5 → P 6 → (A : Agreement) (s : List ℕ) → Every P (agreementFaults A s)
+agreement-every p1 p2 p3 p4 p5 p6 A s = settings-every p1 p2 p3 p4 p5 p6 A (length s) (inUse A s)
+
+pub agreement-numbered : (A : Agreement) (s : List ℕ) → Numbered (agreementFaults A s)
+agreement-numbered A s = settings-numbered A (length s) (inUse A s)
 
 longest-128 : (a : ℕ) → row (algorithmAt a) .longest ≤ 128
 longest-128 =
@@ -41,14 +49,19 @@ neither false b e = (refl, e)
 module _ (A : Agreement) (n : ℕ) (K : Keys) where
   sound-clear : Clear (settingsFaults A n K) → (0 < A .m) × (A .m ≤ 128)
   unfolding settingsFaults sizeWrong
-  sound-clear (passed e1 (passed e2 (passed e3 (passed e4 (passed e5 (passed e6 done)))))) =
+  sound-clear (passed e1 (passed e2 (passed e3 more))) =
       let longest = row (algorithmAt (A .algorithm)) .longest in
       let both = neither (ltb (A .m) 1) (ltb longest (A .m)) e3 in
       (omega (arith, ltb-false (A .m) 1 (both .0)), omega (arith, longest-128 (A .algorithm), ltb-false longest (A .m) (both .1)))
 
   pub sound-size : settingsRefusal A n K ≡ 0 → (0 < A .m) × (A .m ≤ 128)
   unfolding settingsRefusal
-  sound-size e = sound-clear (first-clear _ (settings-alone A n K) e)
+  sound-size e = sound-clear (first-clear _ (settings-numbered A n K) e)
+
+  -- where so many bytes are not refused, as many as the algorithm takes are not
+  pub needed-clear : Clear (settingsFaults A n K) → Clear (settingsFaults A (keyBytes (A .master) (A .algorithm)) K)
+  unfolding settingsFaults
+  needed-clear (passed e1 (passed e2 (passed e3 (passed e4 more)))) = passed e1 (passed e2 (passed e3 (passed (needed-bytes (A .master) (A .algorithm) n e4) more)))
 
   -- so each number of the agreement is a byte
   byte-clear : Clear (settingsFaults A n K) → (A .algorithm < 256) × ((A .padding < 256) × (A .m < 256))
@@ -63,7 +76,7 @@ module _ (A : Agreement) (n : ℕ) (K : Keys) where
 
   pub sound-bytes : settingsRefusal A n K ≡ 0 → (A .algorithm < 256) × ((A .padding < 256) × (A .m < 256))
   unfolding settingsRefusal
-  sound-bytes e = byte-clear (first-clear _ (settings-alone A n K) e)
+  sound-bytes e = byte-clear (first-clear _ (settings-numbered A n K) e)
 
   -- ---- what the builder's answers say
 

@@ -17,19 +17,21 @@ use borrow.Fn.Kinds.{Dens}
 use borrow.Author.Tests.{eqb-true, eqb-false, eq-eqb}
 use Rattle.bits.specs.Choice.{firstOf}
 use Rattle.bits.specs.Str.{sameBytes}
-use Rattle.bits.proofs.Faults.{passed, done, clear-first, all, with, every-first, first-append, first-append-clear, first-front}
+use Rattle.bits.proofs.Faults.{passed, done, clear-first, all, with, every-append, never-first, first-append, first-append-clear, first-front}
 use Rattle.bits.proofs.Same.{sameBytes-true, sameBytes-eq}
 use Rattle.mac.specs.Tag.{bitsOf, bytesFor}
-use Rattle.settings.specs.Faults.{settingsFaults}
+use Rattle.settings.specs.InUse.{agreementFaults}
+use Rattle.settings.proofs.Sound.{agreement-every, agreement-numbered}
 use Rattle.settings.specs.declared.Agreement.{Agreement}
 use Rattle.message.specs.Faults.{tagLengthWrong}
 use Rattle.tag.specs.OneCall.{tagAt}
 use Rattle.tag.proofs.SameUse.{SameUse, tagged-same}
 use Rattle.fields.specs.Layout.{sealField, covered, layoutFaults}
-use Rattle.slip.specs.Slip.{namedValues, agreedValues, agreementUnmet, tagNamed, sealBits, sealDefined, sealWrong, agreementFaults, slipFaults, refusedSlip}
-use Rattle.slip.proofs.Judged.{agreement-numbered, seal-bits, seal-bytes, sealFaultsUnder, met-first, unmet-first, unmet-refused, believed}
+use Rattle.fields.proofs.Laid.{layout-every}
+use Rattle.slip.specs.Slip.{namedValues, agreedValues, agreementUnmet, tagNamed, sealBits, sealDefined, sealWrong, slipFaults, refusedSlip}
+use Rattle.slip.proofs.Judged.{seal-bits, seal-bytes, sealFaultsUnder, met-first, unmet-first, unmet-refused, believed}
 use Rattle.slip.proofs.Whole.{Accepted, Names, tag-defined, named-agreed}
-use Rattle.slip.proofs.Numbers.{layout-every, Reading, keysRead, slipRead, read-number, read-accepted}
+use Rattle.slip.proofs.Numbers.{Reading, keysRead, slipRead, read-number, read-accepted}
 use Rattle.slip.proofs.read.Kinds as read-k
 
 -- ---- what is said
@@ -98,12 +100,11 @@ module _ (A : Agreement) (keys s : List ℕ) where
   unmet-25 clear other = unmet-first A keys s clear (named-other A s other)
 
   -- no other rule answers 25
-  layout-other : eqb (firstOf (layoutFaults s)) 25 ≡ false
-  layout-other = every-first {P = λ n. eqb n 25 ≡ false} refl (layout-every refl refl refl refl refl s)
+  layout-other : ¬ (firstOf (layoutFaults s) ≡ 25)
+  layout-other = never-first 25 refl (layout-every refl refl refl refl refl s)
 
-  seal-other : eqb (firstOf (sealFaultsUnder A keys s)) 25 ≡ false
-  unfolding settingsFaults
-  seal-other = every-first {P = λ n. eqb n 25 ≡ false} refl (with refl (with refl (with refl (with refl (with refl (with refl (with refl (with refl all))))))))
+  seal-other : ¬ (firstOf (sealFaultsUnder A keys s) ≡ 25)
+  seal-other = never-first 25 refl (every-append (agreement-every refl refl refl refl refl refl A keys) (with refl (with refl all)))
 
   pub only-unmet-25 : firstOf (slipFaults A keys s) ≡ 25 → (firstOf (layoutFaults s) ≡ 0) × ¬ Names A s
   unfolding slipFaults
@@ -112,8 +113,8 @@ module _ (A : Agreement) (keys s : List ℕ) where
       go : (b : Bool) → eqb (firstOf (layoutFaults s)) 0 ≡ b → (firstOf (layoutFaults s) ≡ 0) × ¬ Names A s
       go true h =
           let clear = eqb-true (firstOf (layoutFaults s)) 0 h in
-          (clear, λ same. eqb-false (firstOf (sealFaultsUnder A keys s)) 25 seal-other (sym (met-first A keys s clear (named-same A s same)) ∙ e))
-      go false h = absurd (eqb-false (firstOf (layoutFaults s)) 25 layout-other (sym (first-append (layoutFaults s) _ (eqb-false (firstOf (layoutFaults s)) 0 h)) ∙ e))
+          (clear, λ same. seal-other (sym (met-first A keys s clear (named-same A s same)) ∙ e))
+      go false h = absurd (layout-other (sym (first-append (layoutFaults s) _ (eqb-false (firstOf (layoutFaults s)) 0 h)) ∙ e))
 
 -- ---- of every answer of `read`
 

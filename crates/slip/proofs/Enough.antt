@@ -18,12 +18,13 @@ use Rattle.mac.specs.Algorithm.{algorithmAt, row, Keys}
 use Rattle.settings.specs.InUse.{inUse}
 use Rattle.keys.specs.Faults.{keyBytes, masterWrong, keyBytesWrong}
 use Rattle.settings.specs.Faults.{algorithmWrong, paddingWrong, sizeWrong, settingsFaults}
+use Rattle.settings.proofs.Sound.{agreement-numbered}
 use Rattle.fields.specs.Layout.{sealField, layoutFaults}
 use Rattle.fields.proofs.Laid.{laid-out}
 use Rattle.fields.proofs.FirstBytes.{layout-alike, longest}
 use Rattle.slip.specs.Slip.{agreementUnmet, slipFaults, refusedSlip, readOf}
 use Rattle.settings.specs.declared.Agreement.{Agreement}
-use Rattle.slip.proofs.Judged.{agreement-numbered, believed, layout-refused}
+use Rattle.slip.proofs.Judged.{believed, layout-refused}
 use Rattle.slip.proofs.Numbers.{refused-is}
 
 -- ---- keys of more than 32 bytes

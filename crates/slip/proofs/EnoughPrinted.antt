@@ -14,11 +14,11 @@ use borrow.Author.Tests.{lt-ltb, le-ltb, leb-true, leb-false}
 use Rattle.bits.specs.Choice.{pick, firstOf}
 use Rattle.bits.proofs.Faults.{first-clear, first-same}
 use Rattle.settings.specs.InUse.{inUse}
+use Rattle.settings.proofs.Sound.{agreement-numbered}
 use Rattle.settings.specs.declared.Agreement.{Agreement}
 use Rattle.fields.specs.Field.{outside}
 use Rattle.writing.specs.Writing.{Says, said, valueWrong, saysFaults}
 use Rattle.slip.specs.Printed.{sealingFaults, writeFaults, writeOf}
-use Rattle.slip.proofs.Judged.{agreement-numbered}
 use Rattle.slip.proofs.Enough.{four-latest, not-clear}
 use Rattle.slip.proofs.PrintedAnswers.{unwrittenOf, writeFault, writable, unwritten-is}
 

@@ -15,7 +15,7 @@ use borrow.Author.Tests.{le-ltb, le-leb, eq-eqb, ne-eqb}
 use Rattle.bits.specs.Choice.{pick, Fault, _given_, firstOf}
 use Rattle.bits.specs.Str.{sameBytes}
 use Rattle.bits.proofs.Choice.{hit}
-use Rattle.bits.proofs.Faults.{Clear, passed, done, Numbered, also, none, first-clear, clear-first, clear-append, first-append, first-append-clear, first-same, numbered-append}
+use Rattle.bits.proofs.Faults.{Clear, passed, done, all, with, Numbered, first-clear, clear-first, clear-append, first-append, first-append-clear, first-same, every-append}
 use Rattle.cipher.specs.Cipher.{Cipher}
 use Rattle.cipher.specs.Ciphers.{cipherAt}
 use Rattle.cipher.proofs.Laws.{sm4-width, lawful-at}
@@ -27,9 +27,9 @@ use Rattle.mac.proofs.Numbers.{by-number}
 use Rattle.mac.proofs.Padded.{padded-length, blockCount-is}
 use Rattle.mac.proofs.OneBlock.{tag-long}
 use Rattle.mac.proofs.TagBytes.{length-tagBytes}
-use Rattle.settings.specs.InUse.{inUse}
+use Rattle.settings.specs.InUse.{inUse, agreementFaults}
 use Rattle.settings.specs.Faults.{settingsRefusal}
-use Rattle.settings.proofs.Sound.{settings-alone, sound-size}
+use Rattle.settings.proofs.Sound.{agreement-numbered, sound-size}
 use Rattle.settings.specs.Answers.{settingsOf}
 use Rattle.settings.specs.declared.Settings.{Settings}
 use Rattle.settings.specs.declared.Outcome.{Outcome}
@@ -42,7 +42,7 @@ use Rattle.fields.proofs.Formed.{end-whole}
 use Rattle.fields.proofs.Inside.{seal-there}
 use Rattle.fields.proofs.Laid.{LaidOut, laid-out, layout-numbered, covered-least, covered-most}
 use Rattle.slip.specs.Part.{lotPart, lotPartIn}
-use Rattle.slip.specs.Slip.{agreementUnmet, tagNamed, sealBits, sealDefined, sealCalls, sealWrong, agreementFaults, slipFaults, contentsOf, acceptedSlip, refusedSlip, readOf}
+use Rattle.slip.specs.Slip.{agreementUnmet, tagNamed, sealBits, sealDefined, sealCalls, sealWrong, slipFaults, contentsOf, acceptedSlip, refusedSlip, readOf}
 use Rattle.settings.specs.declared.Agreement.{Agreement}
 use Rattle.slip.specs.declared.Slip.{Slip}
 
@@ -80,9 +80,6 @@ module _ (S : Settings) (n : ℕ) (least : 17 ≤ n) (most : n ≤ 1048576) wher
 
 -- ---- a slip whose fields are clear
 
-pub agreement-numbered : (A : Agreement) (keys : List ℕ) → Numbered (agreementFaults A keys)
-agreement-numbered A keys = settings-alone A (length keys) (inUse A keys)
-
 -- the tag has as many bits as were agreed
 pub seal-bits : (A : Agreement) (keys s : List ℕ) → firstOf (agreementFaults A keys) ≡ 0 → length (sealBits A s keys) ≡ A .m
 unfolding tagAt settingsRefusal
@@ -109,7 +106,7 @@ pub met-first : (A : Agreement) (keys s : List ℕ) → firstOf (layoutFaults s)
 unfolding slipFaults
 met-first A keys s clear met =
     first-append-clear (layoutFaults s) _ (layout-numbered s) clear
-    ∙ first-append-clear (25 given agreementUnmet A (sealField s) ∷ []) _ (also {k = 25} (omega arith) none) (clear-first (passed met done))
+    ∙ first-append-clear (25 given agreementUnmet A (sealField s) ∷ []) _ (with refl all) (clear-first (passed met done))
 
 -- the bits that the seal covers
 abbrev coveredBits : List ℕ → ℕ
@@ -146,7 +143,7 @@ module _ (s : List ℕ) (ok : LaidOut s) where
     sealTests = agreementFaults A keys ++ (10 given tagLengthWrong (A .m) (length (tagNamed s)) ∷ [])
 
     tests-numbered : Numbered sealTests
-    tests-numbered = numbered-append (agreement-numbered A keys) (also {k = 10} (omega arith) none)
+    tests-numbered = every-append (agreement-numbered A keys) (with refl all)
 
     check-first : firstOf (oneCallFaults A keys (length (covered s)) (coveredBits s) (tagLengthWrong (A .m) (length (tagNamed s)))) ≡ firstOf sealTests
     unfolding oneCallFaults
@@ -239,7 +236,7 @@ pub record Believed (A : Agreement) (keys s : List ℕ) : Type 0 where
 
 slip-numbered : (A : Agreement) (keys s : List ℕ) → Numbered (slipFaults A keys s)
 unfolding slipFaults
-slip-numbered A keys s = numbered-append (layout-numbered s) (also {k = 25} (omega arith) (numbered-append (agreement-numbered A keys) (also {k = 10} (omega arith) (also {k = 30} (omega arith) none))))
+slip-numbered A keys s = every-append (layout-numbered s) (with refl (every-append (agreement-numbered A keys) (with refl (with refl all))))
 
 pub believed : (A : Agreement) (keys s : List ℕ) → firstOf (slipFaults A keys s) ≡ 0 → Believed A keys s
 unfolding slipFaults

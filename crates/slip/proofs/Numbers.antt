@@ -5,28 +5,27 @@
 -- agreements stands in Agreed.antt.
 -- Assumes nothing.
 use mathlib.Core.Path.{_≡_, refl, sym, ap, _∙_}
-use mathlib.Core.Bool.{Bool, true, false, _||_, _&&_, true≢false}
-use mathlib.Core.List.{List}
+use mathlib.Core.Bool.{Bool, true, false}
+use mathlib.Core.List.{List, [], _∷_}
 use Prim.Native.Nat.{ℕ, zero, suc, _+_}
 use native.Mathlib.Omega.{arith}
-use lib.Dec.{eqb, leb}
+use lib.Dec.{eqb}
 use lib.ListN.{take}
 use lib.Seq.{drop-drop}
 use denote.Ref.{ptr, now}
 use contract.Lifetimes.{Lfts}
 use borrow.Fn.Kinds.{Dens}
 use borrow.Author.Tests.{ne-eqb}
-use Rattle.bits.specs.Choice.{pick, firstOf}
+use Rattle.bits.specs.Choice.{pick, firstOf, oneOf}
 use Rattle.bits.specs.Once.{Allowed}
 use Rattle.bits.specs.Str.{bytesBits}
-use Rattle.bits.proofs.Faults.{Every, all, with, every-append, every-first}
+use Rattle.bits.proofs.Faults.{all, with, every-append, every-first, unlisted}
 use Rattle.mac.proofs.OneBlock.{Apart}
-use Rattle.settings.specs.Faults.{settingsFaults}
+use Rattle.settings.proofs.Sound.{agreement-every}
 use Rattle.settings.specs.declared.Agreement.{Agreement}
-use Rattle.fields.specs.Field.{fieldFaults, lengthOf, value}
-use Rattle.fields.specs.Layout.{lotAt, lotField, covered, expiryFaults, lotFaults, amountFaults, sealFaults, layoutFaults}
-use Rattle.fields.specs.declared.Row.{Row}
-use Rattle.fields.proofs.Laid.{lot-place}
+use Rattle.fields.specs.Field.{lengthOf, value}
+use Rattle.fields.specs.Layout.{lotAt, lotField, covered}
+use Rattle.fields.proofs.Laid.{layout-every, lot-place}
 use Rattle.slip.specs.Part.{seen, partOf, lotPart}
 use Rattle.slip.specs.Slip.{tagNamed, sealDefined, sealCalls, slipFaults, contentsOf, acceptedSlip, refusedSlip, readOf}
 use Rattle.slip.specs.declared.Slip.{Slip}
@@ -49,37 +48,19 @@ refused-is A keys s h = rw (ne-eqb (firstOf (slipFaults A keys s)) 0 h) refl
 
 -- ---- which numbers a slip can get
 
--- 0, 1 to 6, 10, 20 to 25, 30
-unfoldable pub slipNumber : ℕ → Bool
-slipNumber n = leb n 6 || (eqb n 10 || ((leb 20 n && leb n 25) || eqb n 30))
+abbrev pub slipAnswers : List ℕ
+slipAnswers = 0 ∷ 1 ∷ 2 ∷ 3 ∷ 4 ∷ 5 ∷ 6 ∷ 10 ∷ 20 ∷ 21 ∷ 22 ∷ 23 ∷ 24 ∷ 25 ∷ 30 ∷ []
 
--- the fields give 20 to 24, so what holds of these holds of their faults
-module _ {P : ℕ → Type 0} (p20 : P 20) (p21 : P 21) (p22 : P 22) (p23 : P 23) (p24 : P 24) where
-  field-every : (row : Row) (field : List ℕ) → Every P (fieldFaults row field)
-  unfolding fieldFaults
-  field-every row field = with p20 (with p21 (with p22 (with p20 (with p22 all))))
-
-  pub layout-every : (s : List ℕ) → Every P (layoutFaults s)
-  unfolding layoutFaults expiryFaults lotFaults amountFaults sealFaults
-  layout-every s =
-      every-append (every-append (field-every _ s) (with p23 all))
-      (every-append (field-every _ (lotField s))
-      (every-append (every-append (field-every _ _) (with p22 all))
-      (every-append (field-every _ _) (with p24 all))))
-
-pub slip-numbers : (A : Agreement) (keys s : List ℕ) → slipNumber (firstOf (slipFaults A keys s)) ≡ true
-unfolding slipFaults settingsFaults slipNumber
+pub slip-numbers : (A : Agreement) (keys s : List ℕ) → oneOf slipAnswers (firstOf (slipFaults A keys s)) ≡ true
+unfolding slipFaults oneOf
 slip-numbers A keys s =
-    every-first {P = λ n. slipNumber n ≡ true} refl
-    (every-append (layout-every refl refl refl refl refl s) (with refl (with refl (with refl (with refl (with refl (with refl (with refl (with refl (with refl all))))))))))
+    every-first {P = λ n. oneOf slipAnswers n ≡ true} refl
+    (every-append (layout-every refl refl refl refl refl s) (with refl (every-append (agreement-every refl refl refl refl refl refl A keys) (with refl (with refl all)))))
 
 pub never-7-8-9 : (A : Agreement) (keys s : List ℕ)
     → ¬ (firstOf (slipFaults A keys s) ≡ 7) × (¬ (firstOf (slipFaults A keys s) ≡ 8) × ¬ (firstOf (slipFaults A keys s) ≡ 9))
-unfolding slipNumber
-never-7-8-9 A keys s = (λ e. not-of-slip 7 refl e, (λ e. not-of-slip 8 refl e, λ e. not-of-slip 9 refl e))
-  where
-    not-of-slip : (n : ℕ) → slipNumber n ≡ false → firstOf (slipFaults A keys s) ≡ n → ⊥
-    not-of-slip n h e = true≢false (sym (slip-numbers A keys s) ∙ ap slipNumber e ∙ h)
+unfolding oneOf
+never-7-8-9 A keys s = let known = slip-numbers A keys s in (unlisted slipAnswers 7 refl known, (unlisted slipAnswers 8 refl known, unlisted slipAnswers 9 refl known))
 
 -- ---- number and calls of the answer
 
@@ -118,6 +99,9 @@ module _ (κs : Lfts 2) (a : Dens κs read-k.ps) (x : Reading κs a) where
 
   pub read-number : x .result .number ≡ fault
   read-number = ap (λ (r : Slip). r .number) (x .ensures) ∙ number-is (a .0) (keysRead κs a) (slipRead κs a)
+
+  pub read-answers : oneOf slipAnswers (x .result .number) ≡ true
+  read-answers = ap (oneOf slipAnswers) read-number ∙ slip-numbers (a .0) (keysRead κs a) (slipRead κs a)
 
   pub read-calls : x .result .calls ≡ pick (eqb fault 0) (sealCalls (a .0) (slipRead κs a) (keysRead κs a)) 0
   unfolding readOf

@@ -5,37 +5,36 @@
 -- `written-lot`, `read-written`.
 -- Assumes nothing.
 use mathlib.Core.Path.{_≡_, refl, sym, ap, ap₂, _∙_, subst}
-use mathlib.Core.Bool.{Bool, true, false, _||_, true≢false}
+use mathlib.Core.Bool.{Bool, true, false}
 use mathlib.Core.List.{List, [], _∷_, _++_}
 use Prim.Native.Nat.{ℕ, _+_, _≤_}
 use native.Mathlib.Omega.{arith}
-use lib.Dec.{eqb, ltb, leb}
+use lib.Dec.{eqb, ltb}
 use lib.ListN.{length, take, drop}
 use lib.Seq.{take-at, drop-drop}
 use denote.Ref.{ptr, now}
 use contract.Lifetimes.{Lfts}
 use borrow.Fn.Kinds.{Dens}
 use borrow.Author.Tests.{le-ltb, ltb-false, eqb-true, eqb-false}
-use Rattle.bits.specs.Choice.{pick, _given_, firstOf}
+use Rattle.bits.specs.Choice.{pick, _given_, firstOf, oneOf}
 use Rattle.bits.specs.Once.{Allowed}
-use Rattle.bits.proofs.Faults.{all, with, every-append, every-first, Numbered, also, none, numbered-append, clear-append, first-clear, clear-first, first-append, first-append-clear, Clear, passed, done}
+use Rattle.bits.proofs.Faults.{all, with, Numbered, every-append, every-first, never-first, unlisted, clear-append, first-clear, clear-first, first-append, first-append-clear, Clear, passed, done}
 use Rattle.mac.specs.Tag.{bytesFor}
-use Rattle.settings.specs.InUse.{inUse}
-use Rattle.settings.specs.Faults.{settingsFaults, settingsRefusal}
-use Rattle.settings.proofs.Sound.{sound-size}
+use Rattle.settings.specs.InUse.{inUse, agreementFaults}
+use Rattle.settings.specs.Faults.{settingsRefusal}
+use Rattle.settings.proofs.Sound.{agreement-every, agreement-numbered, sound-size}
 use Rattle.settings.specs.declared.Agreement.{Agreement}
 use Rattle.fields.specs.Field.{lengthOf, value}
 use Rattle.fields.specs.Layout.{lotAt, lotField}
 use Rattle.writing.specs.Writing.{Says, said, saysFaults}
-use Rattle.writing.proofs.Sayable.{Sayable, sayable, says-numbered}
+use Rattle.writing.proofs.Sayable.{Sayable, sayable, says-every, says-numbered}
 use Rattle.writing.proofs.ReadBack.{saysOf}
 use Rattle.slip.specs.Part.{seen, partOf, lotPart}
-use Rattle.slip.specs.Slip.{sealCalls, agreementFaults, contentsOf, acceptedSlip, readOf}
+use Rattle.slip.specs.Slip.{sealCalls, contentsOf, acceptedSlip, readOf}
 use Rattle.slip.specs.Printed.{slipOf, slipCalls, sealingFaults, writeFaults, writtenSlip, unwrittenSlip, writtenBy, writeOf}
 use Rattle.slip.specs.declared.Contents.{Contents}
 use Rattle.slip.specs.declared.Slip.{Slip}
 use Rattle.slip.specs.declared.Written.{Written}
-use Rattle.slip.proofs.Judged.{agreement-numbered}
 use Rattle.slip.proofs.Whole.{Accepted}
 use Rattle.slip.proofs.Numbers.{accepted-is, Reading, keysRead, slipRead, read-accepted}
 use Rattle.slip.proofs.Printing.{refused-by}
@@ -49,9 +48,8 @@ use Rattle.slip.proofs.write.Reads as write
 
 -- ---- which numbers printing can get
 
--- 0, 1 to 6, 10, 22, 23
-unfoldable pub writeNumber : ℕ → Bool
-writeNumber n = leb n 6 || (eqb n 10 || (eqb n 22 || eqb n 23))
+abbrev pub writeAnswers : List ℕ
+writeAnswers = 0 ∷ 1 ∷ 2 ∷ 3 ∷ 4 ∷ 5 ∷ 6 ∷ 10 ∷ 22 ∷ 23 ∷ []
 
 -- ---- the two kinds of answer
 
@@ -72,15 +70,15 @@ module _ (A : Agreement) (keys : List ℕ) (x : Says) (room : List ℕ) where
   abbrev pub writeFault : ℕ
   writeFault = firstOf (writeFaults A keys x (length room))
 
-  pub write-numbers : writeNumber writeFault ≡ true
-  unfolding writeFaults saysFaults sealingFaults settingsFaults writeNumber
+  pub write-numbers : oneOf writeAnswers writeFault ≡ true
+  unfolding writeFaults sealingFaults oneOf
   write-numbers =
-      every-first {P = λ n. writeNumber n ≡ true} refl
-      (every-append {P = λ n. writeNumber n ≡ true} (with refl (with refl (with refl all))) (with refl (with refl (with refl (with refl (with refl (with refl (with refl all))))))))
+      every-first {P = λ n. oneOf writeAnswers n ≡ true} refl
+      (every-append (says-every refl refl x) (every-append (agreement-every refl refl refl refl refl refl A keys) (with refl all)))
 
   write-numbered : Numbered (writeFaults A keys x (length room))
   unfolding writeFaults sealingFaults
-  write-numbered = numbered-append (says-numbered x) (numbered-append (agreement-numbered A keys) (also {k = 10} (omega arith) none))
+  write-numbered = every-append (says-numbered x) (every-append (agreement-numbered A keys) (with refl all))
 
   -- what is not refused can be written, and there is room for it
   pub writable : writeFault ≡ 0 → Writable A keys x × (length (slipOf A keys x) ≤ length room)
@@ -129,22 +127,20 @@ module _ (A : Agreement) (keys : List ℕ) (x : Says) (room : List ℕ) where
       (omega (arith, long, lot, size), omega (arith, long, lot, size))
 
   -- the tests before the room's give other numbers
-  says-other : eqb (firstOf (saysFaults x)) 10 ≡ false
-  unfolding saysFaults
-  says-other = every-first {P = λ n. eqb n 10 ≡ false} refl (with refl (with refl (with refl all)))
+  says-other : ¬ (firstOf (saysFaults x) ≡ 10)
+  says-other = never-first 10 refl (says-every refl refl x)
 
-  settings-other : eqb (firstOf (agreementFaults A keys)) 10 ≡ false
-  unfolding settingsFaults
-  settings-other = every-first {P = λ n. eqb n 10 ≡ false} refl (with refl (with refl (with refl (with refl (with refl (with refl all))))))
+  settings-other : ¬ (firstOf (agreementFaults A keys) ≡ 10)
+  settings-other = never-first 10 refl (agreement-every refl refl refl refl refl refl A keys)
 
   pub room-75 : 75 ≤ length room → ¬ (writeFault ≡ 10)
   unfolding writeFaults sealingFaults
   room-75 enough ten = go (eqb (firstOf (saysFaults x)) 0) (eqb (firstOf (agreementFaults A keys)) 0) refl refl
     where
       go : (b d : Bool) → eqb (firstOf (saysFaults x)) 0 ≡ b → eqb (firstOf (agreementFaults A keys)) 0 ≡ d → ⊥
-      go false d e f = eqb-false (firstOf (saysFaults x)) 10 says-other (sym (first-append (saysFaults x) _ (eqb-false (firstOf (saysFaults x)) 0 e)) ∙ ten)
+      go false d e f = says-other (sym (first-append (saysFaults x) _ (eqb-false (firstOf (saysFaults x)) 0 e)) ∙ ten)
       go true false e f =
-          eqb-false (firstOf (agreementFaults A keys)) 10 settings-other
+          settings-other
           (sym (first-append-clear (saysFaults x) _ (says-numbered x) (eqb-true (firstOf (saysFaults x)) 0 e) ∙ first-append (agreementFaults A keys) _ (eqb-false (firstOf (agreementFaults A keys)) 0 f)) ∙ ten)
       go true true e f =
           let ok : Writable A keys x = record { says = eqb-true (firstOf (saysFaults x)) 0 e; settings = eqb-true (firstOf (agreementFaults A keys)) 0 f } in
@@ -182,10 +178,13 @@ module _ (κs : Lfts 3) (a : Dens κs write-k.ps) (x : Writing κs a) where
   pub write-number : x .result .number ≡ fault
   write-number = ap (λ (r : Written × List ℕ). r .0 .number) (x .ensures) ∙ number-is (a .0) (keysGiven κs a) (saysGiven κs a) (roomGiven κs a)
 
+  pub write-answers : oneOf writeAnswers (x .result .number) ≡ true
+  write-answers = ap (oneOf writeAnswers) write-number ∙ write-numbers (a .0) (keysGiven κs a) (saysGiven κs a) (roomGiven κs a)
+
   -- what is printed is sealed under the agreement, so the agreement is never unmet (02 §2)
   pub write-never-25 : ¬ (x .result .number ≡ 25)
-  unfolding writeNumber
-  write-never-25 e = true≢false (sym (write-numbers (a .0) (keysGiven κs a) (saysGiven κs a) (roomGiven κs a)) ∙ ap writeNumber (sym write-number ∙ e))
+  unfolding oneOf
+  write-never-25 = unlisted writeAnswers 25 refl write-answers
 
   -- a refused call: its number and zeros, and the room as it was
   pub write-untouched : ¬ (x .result .number ≡ 0) → (x .result, roomLeft) ≡ unwrittenOf fault (roomGiven κs a)

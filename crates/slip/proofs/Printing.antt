@@ -15,10 +15,10 @@ use Rattle.bits.specs.Choice.{pick, _given_, firstOf}
 use Rattle.bits.proofs.Choice.{miss}
 use Rattle.bits.proofs.Faults.{first-append, first-append-clear}
 use Rattle.mac.specs.Tag.{bytesFor, tagBytes}
-use Rattle.settings.specs.InUse.{unpacked, inUse}
+use Rattle.settings.specs.InUse.{unpacked, inUse, agreementFaults}
 use Rattle.settings.specs.Faults.{settingsRefusal}
 use Rattle.settings.specs.Answers.{numberOf, settingsOf}
-use Rattle.settings.proofs.Sound.{sound-size}
+use Rattle.settings.proofs.Sound.{agreement-numbered, sound-size}
 use Rattle.settings.specs.declared.Agreement.{Agreement}
 use Rattle.settings.specs.declared.Outcome.{Outcome}
 use Rattle.settings.specs.declared.Outcome.the-variants.{Accepted, Made, Yes, No, Refused}
@@ -30,10 +30,10 @@ use Rattle.fields.specs.Layout.{covered}
 use Rattle.fields.specs.declared.Row.{Row}
 use Rattle.writing.specs.Writing.{Says, saysFaults, coveredOf}
 use Rattle.writing.proofs.Sayable.{says-numbered}
-use Rattle.slip.specs.Slip.{sealValue, sealDefined, sealCalls, agreementFaults}
+use Rattle.slip.specs.Slip.{sealValue, sealDefined, sealCalls}
 use Rattle.slip.specs.Printed.{sealedBy, sealHead, sealingFaults, writtenSlip, unwrittenSlip, writtenBy, putOf, writeUnder, slipOf, slipCalls, writeFaults, writeOf}
 use Rattle.slip.specs.declared.Written.{Written}
-use Rattle.slip.proofs.Judged.{only-ten, agreement-numbered, seal-bytes}
+use Rattle.slip.proofs.Judged.{only-ten, seal-bytes}
 
 -- ---- lengths
 

@@ -12,7 +12,7 @@ use lib.Seq.{drop-drop}
 use Rattle.bits.specs.Choice.{firstOf}
 use Rattle.mac.specs.Tag.{bytesFor, tagBytes}
 use Rattle.mac.proofs.TagBytes.{tagBytes-fit}
-use Rattle.settings.specs.InUse.{unpacked, inUse}
+use Rattle.settings.specs.InUse.{unpacked, inUse, agreementFaults}
 use Rattle.settings.specs.Faults.{settingsRefusal}
 use Rattle.settings.proofs.Sound.{sound-size, sound-bytes}
 use Rattle.settings.specs.declared.Agreement.{Agreement}
@@ -28,7 +28,7 @@ use Rattle.writing.specs.Writing.{Says, saysFaults, coveredOf}
 use Rattle.writing.proofs.Sayable.{Sayable, sayable, unrefused, length-covered}
 use Rattle.writing.proofs.ReadBack.{saysOf, seal-back, covered-back, covered-all, says-back, lot-value-back, lot-length-back, lot-at-back, layout-back}
 use Rattle.writing.proofs.WriteBack.{sayable-again, covered-again}
-use Rattle.slip.specs.Slip.{sealValue, namedValues, tagNamed, sealDefined, sealCalls, agreementFaults, contentsOf, acceptedSlip, readOf}
+use Rattle.slip.specs.Slip.{sealValue, namedValues, tagNamed, sealDefined, sealCalls, contentsOf, acceptedSlip, readOf}
 use Rattle.slip.specs.Printed.{sealedBy, slipOf, slipCalls}
 use Rattle.slip.specs.declared.Contents.{Contents}
 use Rattle.slip.specs.declared.Slip.{Slip}

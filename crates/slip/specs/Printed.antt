@@ -9,9 +9,10 @@ use Rattle.bits.specs.Choice.{pick, Fault, _given_, firstOf}
 use Rattle.fields.specs.Format.{sealRow}
 use Rattle.fields.specs.Field.{fieldOf}
 use Rattle.fields.specs.declared.Row.{Row}
+use Rattle.settings.specs.InUse.{agreementFaults}
 use Rattle.settings.specs.declared.Agreement.{Agreement}
 use Rattle.writing.specs.Writing.{Says, saysFaults, coveredOf}
-use Rattle.slip.specs.Slip.{sealValue, sealDefined, sealCalls, agreementFaults}
+use Rattle.slip.specs.Slip.{sealValue, sealDefined, sealCalls}
 use Rattle.slip.specs.declared.Written.{Written}
 
 -- ---- the slip

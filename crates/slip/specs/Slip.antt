@@ -9,8 +9,7 @@ use lib.Dec.{eqb}
 use Rattle.bits.specs.Choice.{pick, Fault, _given_, firstOf}
 use Rattle.bits.specs.Str.{Bits, sameBytes}
 use Rattle.mac.specs.Tag.{tagBytes}
-use Rattle.settings.specs.InUse.{unpacked, inUse}
-use Rattle.settings.specs.Faults.{settingsFaults}
+use Rattle.settings.specs.InUse.{unpacked, inUse, agreementFaults}
 use Rattle.settings.specs.Answers.{settingsOf}
 use Rattle.message.specs.Faults.{tagLengthWrong}
 use Rattle.tag.specs.OneCall.{tagAt, callsAt}
@@ -57,10 +56,6 @@ unfoldable pub sealWrong : Agreement → List ℕ → List ℕ → Bool
 sealWrong A s keys = not (sameBytes (tagNamed s) (sealDefined A s keys))
 
 -- ---- the order: 20 to 24 field by field, then 25, then 1 to 6, then 10, then 30
-
--- 1 to 6 for an agreement and keys
-abbrev pub agreementFaults : Agreement → List ℕ → List Fault
-agreementFaults A keys = settingsFaults A (length keys) (inUse A keys)
 
 unfoldable pub slipFaults : Agreement → List ℕ → List ℕ → List Fault
 slipFaults A keys s =

@@ -26,8 +26,8 @@ use Rattle.mac.specs.Tag.{bitsOf, bytesFor, tagBytes}
 use Rattle.mac.proofs.OneBlock.{refilled, full, tag-long}
 use Rattle.mac.proofs.TagBytes.{take-fits, length-tagBytes, tagBytes-fit, tagBytes-bytesBits, length-bitsOf}
 use Rattle.mac.proofs.Lost.{lost-long, lost-fits, lost-only, lost-same}
-use Rattle.settings.specs.InUse.{unpacked, inUse}
-use Rattle.settings.specs.Faults.{settingsFaults, settingsRefusal}
+use Rattle.settings.specs.InUse.{unpacked, inUse, agreementFaults}
+use Rattle.settings.specs.Faults.{settingsRefusal}
 use Rattle.settings.specs.Answers.{settingsOf}
 use Rattle.settings.specs.declared.Agreement.{Agreement}
 use Rattle.settings.specs.declared.Outcome.the-variants.{Yes}
@@ -87,7 +87,7 @@ module _ (A : Agreement) (s message : List ℕ) (l j : ℕ) (t : List ℕ) where
 
   sound-settings : restoreFault ≡ 0 → settingsNo (fullOnly A) s (length message) l true ≡ 0
   unfolding oneCallFaults settingsRefusal
-  sound-settings e = first-front (settingsFaults (fullOnly A) (length s) (inUse (fullOnly A) s)) _ (clear-checking e)
+  sound-settings e = first-front (agreementFaults (fullOnly A) s) _ (clear-checking e)
 
   pub record Accepted : Type 0 where
     pub whole : A .m ≡ n

@@ -26,16 +26,16 @@ use Rattle.mac.specs.Algorithm.{algorithmAt, Keys}
 use Rattle.mac.specs.Tag.{bitsOf, bytesFor, tagBytes}
 use Rattle.mac.proofs.Lost.{lost-long}
 use Rattle.mac.proofs.TagBytes.{length-bitsOf, tagBytes-block}
-use Rattle.settings.specs.InUse.{inUse}
-use Rattle.settings.specs.Faults.{settingsFaults, settingsRefusal}
+use Rattle.settings.specs.InUse.{inUse, agreementFaults}
+use Rattle.settings.specs.Faults.{settingsRefusal}
 use Rattle.settings.specs.Answers.{settingsOf, checkedOf}
 use Rattle.settings.specs.declared.Agreement.{Agreement}
 use Rattle.settings.specs.declared.Settings.{Settings}
 use Rattle.settings.specs.declared.Checked.{Checked}
 use Rattle.settings.specs.declared.Checked.the-variants.{Sound, Unsound}
-use Rattle.settings.proofs.Sound.{settings-alone, sound-fits}
+use Rattle.settings.proofs.Sound.{agreement-numbered, sound-fits}
 use Rattle.message.specs.Faults.{tagLengthWrong, messageFaults, noSuchBlock}
-use Rattle.message.proofs.Taken.{Taken, numbered, taken}
+use Rattle.message.proofs.Taken.{Taken, message-numbered, taken}
 use Rattle.tag.proofs.Full.{n, size, whole-bytes, eights}
 use Rattle.tag.specs.declared.Restored.{Restored}
 use Rattle.tag.specs.declared.Restored.the-variants.{Filled, Refused}
@@ -73,7 +73,7 @@ module _ (S : Settings) (K : Keys) (message : List ℕ) (l j : ℕ) (tag : List 
   module _ (good : no ≡ 0) where
     last : (b : Bool) → noSuchBlock l j ≡ b → then-41 ≡ pick b 41 0
     unfolding firstOf
-    last b h = first-append-clear faults _ (numbered S (length message) l _) (sym e ∙ good) ∙ ap (λ (b : Bool). pick b 41 0) h
+    last b h = first-append-clear faults _ (message-numbered S (length message) l _) (sym e ∙ good) ∙ ap (λ (b : Bool). pick b 41 0) h
 
     pub no-block-under : noSuchBlock l j ≡ true → (Refused 41, message) ≡ restoreUnder S K message l j tag
     unfolding restoreUnder restoredBy pick
@@ -181,8 +181,8 @@ module _ (A : Agreement) (s message : List ℕ) (l j : ℕ) (tag : List ℕ) (u 
 
         first : firstOf (restoreFaults A s (length message) l j (length tag)) ≡ firstOf rest
         first =
-            ap firstOf (append-assoc (settingsFaults (fullOnly A) (length s) (inUse (fullOnly A) s)) (messageFaults (settingsOf (fullOnly A)) (length message) l ten) (41 given noSuchBlock l j ∷ []))
-            ∙ first-append-clear (settingsFaults (fullOnly A) (length s) (inUse (fullOnly A) s)) rest (settings-alone (fullOnly A) (length s) (inUse (fullOnly A) s)) (both .0)
+            ap firstOf (append-assoc (agreementFaults (fullOnly A) s) (messageFaults (settingsOf (fullOnly A)) (length message) l ten) (41 given noSuchBlock l j ∷ []))
+            ∙ first-append-clear (agreementFaults (fullOnly A) s) rest (agreement-numbered (fullOnly A) s) (both .0)
 
         restored : ℕ → ℕ → Keys → Restored × List ℕ
         restored a p K = restoredBy (firstOf (restoreFaults A s (length message) l j (length tag))) (record { algorithm = a; padding = p; m = A .m }) K message l j tag

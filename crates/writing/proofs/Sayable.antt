@@ -12,7 +12,7 @@ use lib.Dec.{eqb}
 use borrow.Author.Tests.{eqb-true, eqb-false, ne-eqb}
 use Rattle.bits.specs.Choice.{pick, firstOf}
 use Rattle.bits.proofs.Lists.{drop-replicate}
-use Rattle.bits.proofs.Faults.{Clear, passed, done, Numbered, also, none, first-clear}
+use Rattle.bits.proofs.Faults.{Clear, passed, done, Every, all, with, Numbered, first-clear}
 use Rattle.fields.specs.Format.{amountRow}
 use Rattle.fields.specs.Field.{anyOutside, fieldOf}
 use Rattle.fields.specs.Date.{dateWrong}
@@ -26,9 +26,13 @@ pub record Sayable (x : Says) : Type 0 where
   pub microlitres : Within 1 1000000 (x .amount)
   pub date : dateWrong (x .year) (x .month) (x .day) ≡ false
 
-pub says-numbered : (x : Says) → Numbered (saysFaults x)
+-- what holds of 22 and 23 holds of their numbers
+pub says-every : {P : ℕ → Type 0} → P 22 → P 23 → (x : Says) → Every P (saysFaults x)
 unfolding saysFaults
-says-numbered x = also {k = 22} (omega arith) (also {k = 22} (omega arith) (also {k = 23} (omega arith) none))
+says-every p22 p23 x = with p22 (with p22 (with p23 all))
+
+pub says-numbered : (x : Says) → Numbered (saysFaults x)
+says-numbered x = says-every refl refl x
 
 clear-says : (x : Says) → Clear (saysFaults x) → Sayable x
 unfolding saysFaults valueWrong
