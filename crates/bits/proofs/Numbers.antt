@@ -1,5 +1,5 @@
--- Numbers as bit strings, and back. All follows from `bitsN-add`: a string of j + k digits is the j high ones, then the k
--- low ones.
+-- Numbers as bit strings, and back. What is said of parts follows from `bitsN-add`: a string of j + k digits is the j high ones, then
+-- the k low ones.
 -- Assumes nothing.
 use mathlib.Core.Path.{_≡_, refl, sym, ap, ap₂, _∙_}
 use mathlib.Core.Bool.{Bool, true, false, cond}

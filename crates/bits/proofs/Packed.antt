@@ -26,6 +26,9 @@ module _ {A B : Type 0} (f : A → List B) (k : ℕ) (long : (x : A) → length 
   length-flatMap [] = sym (mul-zero k)
   length-flatMap (x ∷ xs) = omega (arith, length-append (f x) (flatMap f xs), long x, length-flatMap xs, mul-suc k (length xs))
 
+  next : (w : List B) (n : ℕ) → length w ≡ k → k * suc n ≡ length w + k * n
+  next w n h = omega (arith, mul-suc k n)
+
   flatMap-take : (n : ℕ) (xs : List A) → flatMap f (take n xs) ≡ take (k * n) (flatMap f xs)
   unfolding flatMap
   flatMap-take zero xs = sym (ap (λ (m : ℕ). take m (flatMap f xs)) (mul-zero k))
@@ -33,9 +36,6 @@ module _ {A B : Type 0} (f : A → List B) (k : ℕ) (long : (x : A) → length 
   flatMap-take (suc n) (x ∷ xs) =
       ap (λ (w : List B). f x ++ w) (flatMap-take n xs)
       ∙ sym (ap (λ (m : ℕ). take m (f x ++ flatMap f xs)) (next (f x) n (long x)) ∙ take-append-add (f x) (flatMap f xs) (k * n))
-    where
-      next : (w : List B) (n : ℕ) → length w ≡ k → k * suc n ≡ length w + k * n
-      next w n h = omega (arith, mul-suc k n)
 
   flatMap-drop : (n : ℕ) (xs : List A) → flatMap f (drop n xs) ≡ drop (k * n) (flatMap f xs)
   unfolding flatMap
@@ -44,9 +44,6 @@ module _ {A B : Type 0} (f : A → List B) (k : ℕ) (long : (x : A) → length 
   flatMap-drop (suc n) (x ∷ xs) =
       flatMap-drop n xs
       ∙ sym (ap (λ (m : ℕ). drop m (f x ++ flatMap f xs)) (next (f x) n (long x)) ∙ drop-append-add (f x) (flatMap f xs) (k * n))
-    where
-      next : (w : List B) (n : ℕ) → length w ≡ k → k * suc n ≡ length w + k * n
-      next w n h = omega (arith, mul-suc k n)
 
   -- equal strings of equally many elements are made of equal parts
   flatMap-parts : (xs ys : List A) → length xs ≡ length ys → flatMap f xs ≡ flatMap f ys → map f xs ≡ map f ys

@@ -22,19 +22,19 @@ shl-low s k x =
     ∙ ap₂ (λ (m n : ℕ). m % 2 ^ k * 2 ^ s + n) (shl-shr x s) (mul-mod-left x (2 ^ s))
     ∙ add-zero (x % 2 ^ k * 2 ^ s)
 
-funnel-sum : (s k x y : ℕ) → x < 2 ^ (s + k) → y < 2 ^ (s + k)
+funnel-sum : (s k x y : ℕ) → y < 2 ^ (s + k)
     → bitsN (s + k) (bitOr (x * 2 ^ s % 2 ^ (s + k)) (y / 2 ^ k)) ≡ drop s (bitsN (s + k) x) ++ take s (bitsN (s + k) y)
-funnel-sum s k x y hx hy =
+funnel-sum s k x y hy =
     ap (bitsN (s + k)) (ap (λ (n : ℕ). bitOr n (y / 2 ^ k)) (shl-low s k x) ∙ or-shifted (x % 2 ^ k) s (y / 2 ^ k) (shr-lt s k hy))
     ∙ ap (λ (n : ℕ). bitsN n (x % 2 ^ k * 2 ^ s + y / 2 ^ k)) (add-comm s k)
     ∙ bitsN-join k s (x % 2 ^ k) (y / 2 ^ k) (shr-lt s k hy)
     ∙ ap₂ (λ (u v : Bits). u ++ v) (bitsN-mod k x ∙ sym (drop-bitsN s k x)) (sym (take-bitsN s k y))
 
-funnel-shifts : (w s x y : ℕ) → s ≤ w → x < 2 ^ w → y < 2 ^ w
+funnel-shifts : (w s x y : ℕ) → s ≤ w → y < 2 ^ w
     → bitsN w (bitOr (x * 2 ^ s % 2 ^ w) (y / 2 ^ (w - s))) ≡ drop s (bitsN w x) ++ take s (bitsN w y)
-funnel-shifts w s x y hs hx hy =
-    subst (λ (n : ℕ). x < 2 ^ n → y < 2 ^ n → bitsN n (bitOr (x * 2 ^ s % 2 ^ n) (y / 2 ^ (w - s))) ≡ drop s (bitsN n x) ++ take s (bitsN n y))
-    (whole w s hs) (funnel-sum s (w - s) x y) hx hy
+funnel-shifts w s x y hs hy =
+    subst (λ (n : ℕ). y < 2 ^ n → bitsN n (bitOr (x * 2 ^ s % 2 ^ n) (y / 2 ^ (w - s))) ≡ drop s (bitsN n x) ++ take s (bitsN n y))
+    (whole w s hs) (funnel-sum s (w - s) x y) hy
   where
     whole : (w s : ℕ) → s ≤ w → s + (w - s) ≡ w
     whole w s hs = omega arith
@@ -42,7 +42,7 @@ funnel-shifts w s x y hs hx hy =
 -- a rotation is a number beside itself
 pub rotl-shifts : (w r x : ℕ) → r ≤ w → x < 2 ^ w → bitsN w (bitOr (x * 2 ^ r % 2 ^ w) (x / 2 ^ (w - r))) ≡ rotl r (bitsN w x)
 unfolding rotl
-rotl-shifts w r x hr h = funnel-shifts w r x x hr h h
+rotl-shifts w r x hr h = funnel-shifts w r x x hr h
 
 -- ---- the k digits of w that s stand after, by a shift and a mask
 

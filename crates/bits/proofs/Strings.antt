@@ -1,7 +1,7 @@
 -- The laws of xor, of equality, of rotations and of zeros: length, take, drop, append, and how each is undone.
 -- Assumes nothing.
 use mathlib.Core.Path.{_≡_, refl, sym, ap, ap₂, _∙_}
-use mathlib.Core.Bool.{Bool, true, false, _&&_, not, xor, Bool·beq, false≢true}
+use mathlib.Core.Bool.{Bool, true, false, _&&_, _||_, not, xor, Bool·beq, false≢true}
 use mathlib.Core.List.{[], _∷_, _++_, zipWith, append-assoc, append-nil}
 use Prim.Native.Nat.{ℕ, zero, suc, _+_, _-_, _/_, _%_, _^_, _≤_, _<_, min}
 use native.Mathlib.Nat.{mod-lt, zero-div}
@@ -153,6 +153,10 @@ beq-eq false false e = refl
 pub and-both : (a b : Bool) → a && b ≡ true → (a ≡ true) × (b ≡ true)
 and-both true b e = (refl, e)
 and-both false b e = absurd (false≢true e)
+
+pub neither : (a b : Bool) → a || b ≡ false → (a ≡ false) × (b ≡ false)
+neither true b e = absurd (false≢true (sym e))
+neither false b e = (refl, e)
 
 sameB-refl : (u : Bits) → sameB u u ≡ true
 unfolding sameB

@@ -1,5 +1,5 @@
 // Words and bytes by shifts and masks: every contract is told in bits, which bits of the arguments stand where in the result. And
-// the first of several tests, by which every ordered list of refusals is answered.
+// the first of several tests, by which a list of refusals is answered where each of its tests answers every input.
 ghost use mathlib.Core.Path.{_≡_};
 ghost use mathlib.Core.List.{_∷_, [], _++_};
 ghost use Prim.Native.Nat.{_-_, _%_, _≤_};

@@ -19,8 +19,6 @@ use Rattle.keys.proofs.bytes_wrong.Kinds as bytes-wrong-k
 use Rattle.keys.proofs.bytes_wrong.Reads as bytes-wrong
 use Rattle.keys.proofs.same.Kinds as keys-same-k
 use Rattle.keys.proofs.same.Reads as keys-same
-use Rattle.keys.proofs.weak.Kinds as weak-k
-use Rattle.keys.proofs.weak.Reads as weak
 
 -- three blocks of bytes
 pub record Blocks (b : KeyBlocks) : Type 0 where
@@ -57,6 +55,3 @@ bytes-wrong-unique κs a g p x y = (same (x .ensures) (y .ensures), refl)
 
 pub same-unique : Unique keys-same-k.ps keys-same-k.r keys-same.Asked keys-same.Learnt
 same-unique κs a g p x y = (same (x .ensures) (y .ensures), refl)
-
-pub weak-unique : Unique weak-k.ps weak-k.r weak.Asked weak.Learnt
-weak-unique κs a g p x y = (same (x .ensures) (y .ensures), refl)

@@ -1,4 +1,4 @@
--- Refusals 4 to 6 of document 01 and of 02 §6, by the algorithm's row: a test for each fault, in the words of its column.
+-- Refusals 4 and 5 of document 01 and of 02 §6, by the algorithm's row: a test for each fault, in the words of its column.
 -- Assumes nothing.
 use mathlib.Core.Bool.{Bool, _&&_, _||_, not}
 use Prim.Native.Nat.{ℕ}
@@ -22,7 +22,3 @@ keyBytesWrong master a n = masterWrong master a || not (eqb n (keyBytes master a
 -- 5: algorithm 2, 4 or 6 with K = K′, or 4 with K = K″, of the keys in use
 unfoldable pub keysSame : ℕ → Keys → Bool
 keysSame a K = (row (algorithmAt a) .differ && sameB (K .k) (K .k′)) || (row (algorithmAt a) .third && sameB (K .k) (K .k″))
-
--- 6: algorithm 4 with K′ = K″
-unfoldable pub keysWeak : ℕ → Keys → Bool
-keysWeak a K = row (algorithmAt a) .third && sameB (K .k′) (K .k″)

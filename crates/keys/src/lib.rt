@@ -1,5 +1,5 @@
 // The keys: the bytes as they were given, the three keys in use that are made of them, by derivation where a master is in use, and the
-// tests on them, refusals 4 to 6. Bytes that are missing count as zero, so every slice is answered.
+// tests on them, refusals 4 and 5. Bytes that are missing count as zero, so every slice is answered.
 ghost use mathlib.Core.Path.{_≡_};
 ghost use mathlib.Core.Bool.{_&&_};
 ghost use lib.ListN.{drop};
@@ -12,7 +12,7 @@ ghost use Rattle.mac.specs.declared.Row.{Row};
 ghost use Rattle.mac.specs.Algorithm.{algorithmAt, row, keys};
 ghost use Rattle.mac.specs.Derive.{derived};
 ghost use Rattle.keys.specs.Given.{givenOf, unpackOf, keyBits, Unpacks};
-ghost use Rattle.keys.specs.Faults.{keyBytes, masterWrong, keyBytesWrong, keysSame, keysWeak};
+ghost use Rattle.keys.specs.Faults.{keyBytes, masterWrong, keyBytesWrong, keysSame};
 
 // K, K' and K''.
 pub struct KeyBlocks {
@@ -110,7 +110,7 @@ pub fn unpack(master: bool, algorithm: usize, given: &[u8]) -> Unpacked
     }
 }
 
-// ---- refusals 4 to 6
+// ---- refusals 4 and 5
 
 // Whether two keys are given, under a master or without.
 fn two_given(master: bool, algorithm: usize) -> bool
@@ -174,13 +174,4 @@ pub fn same(algorithm: usize, keys: KeyBlocks) -> bool
         return true;
     }
     same_where(row.third, first, third)
-}
-
-pub fn weak(algorithm: usize, keys: KeyBlocks) -> bool
-    ensures { λ r. ⌜ r ≡ keysWeak algorithm (keyBits keys) ⌝ }
-{
-    let row = mac::row_of(algorithm);
-    let second = keys.second;
-    let third = keys.third;
-    same_where(row.third, second, third)
 }

@@ -71,7 +71,7 @@ module _ (A : Agreement) (s : List ℕ) (d : ℕ) (g : Clear (startFaults A s d)
       first-past 11 _ _ runs ∙ first-past 11 _ _ refl
       ∙ first-past 12 _ _ (three-no (A .padding) _ (λ e. ap (λ (k : ℕ). ltb (length x) (pick (eqb k 3) d 0)) e ∙ le-ltb (length x) d (omega (arith, met e))))
 
-  -- 1 to 6 are not there, nor 7 and 8
+  -- 1 to 5 are not there, nor 7 and 8
   pub one-call-last : (bytes : List ℕ) (l : ℕ) → Holds bytes l x → (ten : Bool) → firstOf (oneCallFaults A s (length bytes) l ten) ≡ lastTwo A (length x) ten
   unfolding oneCallFaults startFaults messageFaults lengthWrong tooManyBits stood standing freshOf
   one-call-last bytes l h ten =

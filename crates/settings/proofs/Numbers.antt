@@ -1,15 +1,15 @@
 -- The number and the calls of an answer that is chosen by the number of the first fault: x where that number is 0, else y, which
 -- refuses by it. R is what the answer comes with. And document 01's number of every answer that the builder's contract allows.
 -- Assumes nothing.
-use mathlib.Core.Path.{_≡_, refl, sym, ap, _∙_}
+use mathlib.Core.Path.{_≡_, refl, ap, _∙_}
 use mathlib.Core.Bool.{Bool, true, false}
 use Prim.Native.Nat.{ℕ}
 use lib.Dec.{eqb}
-use borrow.Author.Tests.{eqb-true}
 use borrow.Fn.Kinds.{Dens}
 use contract.Lifetimes.{Lfts}
 use Rattle.bits.specs.Choice.{pick}
 use Rattle.bits.specs.Once.{Allowed}
+use Rattle.bits.proofs.Choice.{chosen-number}
 use Rattle.keys.specs.Given.{keyBits}
 use Rattle.settings.specs.Faults.{settingsRefusal}
 use Rattle.settings.specs.Answers.{numberOf, reportedCalls, settingsOf, checkedOf, checkedNumber}
@@ -26,12 +26,7 @@ Unrefused r = numberOf r ≡ 0
 
 module _ {R : Type 0} (answer : R → Outcome) (n : ℕ) (x y : R) where
   pub number-chosen : numberOf (answer x) ≡ 0 → numberOf (answer y) ≡ n → numberOf (answer (pick (eqb n 0) x y)) ≡ n
-  unfolding pick
-  number-chosen good bad = go (eqb n 0) refl
-    where
-      go : (b : Bool) → eqb n 0 ≡ b → numberOf (answer (pick b x y)) ≡ n
-      go true e = good ∙ sym (eqb-true n 0 e)
-      go false e = bad
+  number-chosen good bad = chosen-number (λ (r : R). numberOf (answer r)) n x y good bad
 
   pub calls-chosen : reportedCalls (answer y) ≡ 0 → reportedCalls (answer (pick (eqb n 0) x y)) ≡ pick (eqb n 0) (reportedCalls (answer x)) 0
   unfolding pick
@@ -61,9 +56,5 @@ module _ (κs : Lfts 0) (a : Dens κs checked-k.ps) (x : Allowed checked-k.ps ch
   refusing = settingsRefusal (a .0) (a .1 .0) (keyBits (a .1 .1 .0))
 
   pub checked-number : checkedNumber (x .result) ≡ refusing
-  unfolding checkedOf checkedNumber pick
-  checked-number = ap checkedNumber (x .ensures) ∙ go (eqb refusing 0) refl
-    where
-      go : (b : Bool) → eqb refusing 0 ≡ b → checkedNumber (pick b (Sound (settingsOf (a .0))) (Unsound refusing)) ≡ refusing
-      go true e = sym (eqb-true refusing 0 e)
-      go false e = refl
+  unfolding checkedOf checkedNumber
+  checked-number = ap checkedNumber (x .ensures) ∙ chosen-number checkedNumber refusing (Sound (settingsOf (a .0))) (Unsound refusing) refl refl

@@ -2,7 +2,7 @@
 -- length lies between 1 and 128 (`sound-size`) and each number is a byte (`sound-bytes`); and what the builder's two answers say (`unsound-is`, `sound-is`).
 -- Assumes nothing.
 use mathlib.Core.Path.{_≡_, refl, sym, subst}
-use mathlib.Core.Bool.{Bool, true, false, _||_, not, false≢true}
+use mathlib.Core.Bool.{Bool, true, false, _||_, not}
 use mathlib.Core.List.{List}
 use Prim.Native.Nat.{ℕ, _≤_, _<_}
 use native.Mathlib.Omega.{arith}
@@ -10,6 +10,7 @@ use lib.Dec.{eqb, ltb}
 use lib.ListN.{length}
 use borrow.Author.Tests.{ltb-false, eqb-true, eqb-false, not-false}
 use Rattle.bits.specs.Choice.{pick}
+use Rattle.bits.proofs.Strings.{neither}
 use Rattle.bits.proofs.Faults.{Clear, passed, Every, all, with, Numbered, first-clear}
 use Rattle.mac.specs.declared.Row.{Row}
 use Rattle.mac.specs.Algorithm.{algorithmAt, row, Keys}
@@ -24,16 +25,16 @@ use Rattle.settings.specs.Faults.{settingsFaults, settingsRefusal, algor
 use Rattle.settings.specs.InUse.{inUse, agreementFaults}
 use Rattle.settings.specs.Answers.{settingsOf, checkedOf}
 
--- what holds of 1 to 6 holds of their numbers
-pub settings-every : {P : ℕ → Type 0} → P 1 → P 2 → P 3 → P 4 → P 5 → P 6 → (A : Agreement) (n : ℕ) (K : Keys) → Every P (settingsFaults A n K)
+-- what holds of 1 to 5 holds of their numbers
+pub settings-every : {P : ℕ → Type 0} → P 1 → P 2 → P 3 → P 4 → P 5 → (A : Agreement) (n : ℕ) (K : Keys) → Every P (settingsFaults A n K)
 unfolding settingsFaults
-settings-every p1 p2 p3 p4 p5 p6 A n K = with p1 (with p2 (with p3 (with p4 (with p5 (with p6 all)))))
+settings-every p1 p2 p3 p4 p5 A n K = with p1 (with p2 (with p3 (with p4 (with p5 all))))
 
 pub settings-numbered : (A : Agreement) (n : ℕ) (K : Keys) → Numbered (settingsFaults A n K)
-settings-numbered A n K = settings-every refl refl refl refl refl refl A n K
+settings-numbered A n K = settings-every refl refl refl refl refl A n K
 
-pub agreement-every : {P : ℕ → Type 0} → P 1 → P 2 → P 3 → P 4 → P 5 → P 6 → (A : Agreement) (s : List ℕ) → Every P (agreementFaults A s)
-agreement-every p1 p2 p3 p4 p5 p6 A s = settings-every p1 p2 p3 p4 p5 p6 A (length s) (inUse A s)
+pub agreement-every : {P : ℕ → Type 0} → P 1 → P 2 → P 3 → P 4 → P 5 → (A : Agreement) (s : List ℕ) → Every P (agreementFaults A s)
+agreement-every p1 p2 p3 p4 p5 A s = settings-every p1 p2 p3 p4 p5 A (length s) (inUse A s)
 
 pub agreement-numbered : (A : Agreement) (s : List ℕ) → Numbered (agreementFaults A s)
 agreement-numbered A s = settings-numbered A (length s) (inUse A s)
@@ -41,10 +42,6 @@ agreement-numbered A s = settings-numbered A (length s) (inUse A s)
 longest-128 : (a : ℕ) → row (algorithmAt a) .longest ≤ 128
 longest-128 =
     by-number (λ a A. row A .longest ≤ 128) (λ a. omega arith) (omega arith) (omega arith) (omega arith) (omega arith) (omega arith) (omega arith) (omega arith)
-
-neither : (a b : Bool) → a || b ≡ false → (a ≡ false) × (b ≡ false)
-neither true b e = absurd (false≢true (sym e))
-neither false b e = (refl, e)
 
 module _ (A : Agreement) (n : ℕ) (K : Keys) where
   sound-clear : Clear (settingsFaults A n K) → (0 < A .m) × (A .m ≤ 128)

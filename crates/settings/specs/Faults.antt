@@ -1,4 +1,4 @@
--- Refusals 1 to 6 of document 01: a test for each fault, in the words of its column (4 to 6 stand in crate keys), and the order.
+-- Refusals 1 to 5 of document 01: a test for each fault, in the words of its column (4 to 6 stand in crate keys), and the order.
 -- Assumes nothing.
 use mathlib.Core.Bool.{Bool, _||_, not}
 use mathlib.Core.List.{List, [], _∷_}
@@ -7,7 +7,7 @@ use lib.Dec.{eqb, ltb}
 use Rattle.bits.specs.Choice.{pick, Fault, _given_, firstOf}
 use Rattle.mac.specs.declared.Row.{Row}
 use Rattle.mac.specs.Algorithm.{algorithmAt, row, Keys}
-use Rattle.keys.specs.Faults.{keyBytesWrong, keysSame, keysWeak}
+use Rattle.keys.specs.Faults.{keyBytesWrong, keysSame}
 use Rattle.settings.specs.declared.Agreement.{Agreement}
 
 -- 1: algorithm not 1..8
@@ -30,7 +30,6 @@ settingsFaults A n K =
     3 given sizeWrong (A .algorithm) (A .m) ∷
     4 given keyBytesWrong (A .master) (A .algorithm) n ∷
     5 given keysSame (A .algorithm) K ∷
-    6 given keysWeak (A .algorithm) K ∷
     []
 
 -- the refusal, 0 where there is none

@@ -18,6 +18,6 @@ unpacked A s = unpackOf (A .master) (A .algorithm) s
 abbrev pub inUse : Agreement → List ℕ → Keys
 inUse A s = unpacked A s .out
 
--- 1 to 6, in this order
+-- 1 to 5, in this order
 abbrev pub agreementFaults : Agreement → List ℕ → List Fault
 agreementFaults A s = settingsFaults A (length s) (inUse A s)

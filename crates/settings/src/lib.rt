@@ -1,4 +1,4 @@
-// What was agreed with a supplier, and the caller's keys, judged: refusals 1 to 6, each one test in one order. Numbers come in as
+// What was agreed with a supplier, and the caller's keys, judged: refusals 1 to 5, each one test in one order. Numbers come in as
 // `usize` and nothing is narrowed before it is tested.
 ghost use mathlib.Core.Path.{_≡_};
 ghost use Rattle.keys.specs.Given.{keyBits, Unpacks};
@@ -58,7 +58,7 @@ impl Settings {
         }
     }
 
-    // The settings, or the first refusal of 1 to 6; told are the keys in use, and how many bytes were given for them.
+    // The settings, or the first refusal of 1 to 5; told are the keys in use, and how many bytes were given for them.
     pub fn checked(agreement: Agreement, given: usize, keys: keys::KeyBlocks) -> Checked
         ensures { λ r. ⌜ r ≡ checkedOf agreement given (keyBits keys) ⌝ }
     {
@@ -109,7 +109,7 @@ fn size_wrong(algorithm: usize, m: usize) -> bool
     row.longest < m
 }
 
-// The first refusal of 1 to 6, and 0 where there is none.
+// The first refusal of 1 to 5, and 0 where there is none.
 pub fn refusal(agreement: Agreement, given: usize, keys: keys::KeyBlocks) -> usize
     ensures { λ r. ⌜ r ≡ settingsRefusal agreement given (keyBits keys) ⌝ }
 {
@@ -120,7 +120,6 @@ pub fn refusal(agreement: Agreement, given: usize, keys: keys::KeyBlocks) -> usi
         size_wrong(algorithm, agreement.m),
         keys::bytes_wrong(agreement.master, algorithm, given),
         keys::same(algorithm, keys),
-        keys::weak(algorithm, keys),
     ];
-    bits::first(&[1, 2, 3, 4, 5, 6], &there)
+    bits::first(&[1, 2, 3, 4, 5], &there)
 }

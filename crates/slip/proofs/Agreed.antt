@@ -104,7 +104,7 @@ module _ (A : Agreement) (keys s : List ℕ) where
   layout-other = never-first 25 refl (layout-every refl refl refl refl refl s)
 
   seal-other : ¬ (firstOf (sealFaultsUnder A keys s) ≡ 25)
-  seal-other = never-first 25 refl (every-append (agreement-every refl refl refl refl refl refl A keys) (with refl (with refl all)))
+  seal-other = never-first 25 refl (every-append (agreement-every refl refl refl refl refl A keys) (with refl (with refl all)))
 
   pub only-unmet-25 : firstOf (slipFaults A keys s) ≡ 25 → (firstOf (layoutFaults s) ≡ 0) × ¬ Names A s
   unfolding slipFaults

@@ -4,7 +4,7 @@
 -- of accepted slips in Whole.antt, of every such answer (`read-whole`, `read-seal`, `read-equal`, `reads-differ`). What is said of
 -- agreements stands in Agreed.antt.
 -- Assumes nothing.
-use mathlib.Core.Path.{_≡_, refl, sym, ap, _∙_}
+use mathlib.Core.Path.{_≡_, refl, sym, ap, _∙_, subst}
 use mathlib.Core.Bool.{Bool, true, false}
 use mathlib.Core.List.{List, [], _∷_}
 use Prim.Native.Nat.{ℕ, zero, suc, _+_}
@@ -19,9 +19,10 @@ use borrow.Author.Tests.{ne-eqb}
 use Rattle.bits.specs.Choice.{pick, firstOf, oneOf}
 use Rattle.bits.specs.Once.{Allowed}
 use Rattle.bits.specs.Str.{bytesBits}
-use Rattle.bits.proofs.Faults.{all, with, every-append, every-first, unlisted}
+use Rattle.bits.proofs.Faults.{all, with, every-append, unlisted}
 use Rattle.mac.proofs.OneBlock.{Apart}
 use Rattle.settings.proofs.Sound.{agreement-every}
+use Rattle.settings.proofs.Retired.{Among, among}
 use Rattle.settings.specs.declared.Agreement.{Agreement}
 use Rattle.fields.specs.Field.{lengthOf, value}
 use Rattle.fields.specs.Layout.{lotAt, lotField, covered}
@@ -49,18 +50,18 @@ refused-is A keys s h = rw (ne-eqb (firstOf (slipFaults A keys s)) 0 h) refl
 -- ---- which numbers a slip can get
 
 abbrev pub slipAnswers : List ℕ
-slipAnswers = 0 ∷ 1 ∷ 2 ∷ 3 ∷ 4 ∷ 5 ∷ 6 ∷ 10 ∷ 20 ∷ 21 ∷ 22 ∷ 23 ∷ 24 ∷ 25 ∷ 30 ∷ []
+slipAnswers = 0 ∷ 1 ∷ 2 ∷ 3 ∷ 4 ∷ 5 ∷ 10 ∷ 20 ∷ 21 ∷ 22 ∷ 23 ∷ 24 ∷ 25 ∷ 30 ∷ []
 
-pub slip-numbers : (A : Agreement) (keys s : List ℕ) → oneOf slipAnswers (firstOf (slipFaults A keys s)) ≡ true
+pub slip-numbers : (A : Agreement) (keys s : List ℕ) → Among slipAnswers (firstOf (slipFaults A keys s))
 unfolding slipFaults oneOf
 slip-numbers A keys s =
-    every-first {P = λ n. oneOf slipAnswers n ≡ true} refl
-    (every-append (layout-every refl refl refl refl refl s) (with refl (every-append (agreement-every refl refl refl refl refl refl A keys) (with refl (with refl all)))))
+    among slipAnswers refl refl refl
+    (every-append (layout-every refl refl refl refl refl s) (with refl (every-append (agreement-every refl refl refl refl refl A keys) (with refl (with refl all)))))
 
 pub never-7-8-9 : (A : Agreement) (keys s : List ℕ)
     → ¬ (firstOf (slipFaults A keys s) ≡ 7) × (¬ (firstOf (slipFaults A keys s) ≡ 8) × ¬ (firstOf (slipFaults A keys s) ≡ 9))
 unfolding oneOf
-never-7-8-9 A keys s = let known = slip-numbers A keys s in (unlisted slipAnswers 7 refl known, (unlisted slipAnswers 8 refl known, unlisted slipAnswers 9 refl known))
+never-7-8-9 A keys s = let known = slip-numbers A keys s .0 in (unlisted slipAnswers 7 refl known, (unlisted slipAnswers 8 refl known, unlisted slipAnswers 9 refl known))
 
 -- ---- number and calls of the answer
 
@@ -78,6 +79,9 @@ module _ (s : List ℕ) (calls : ℕ) where
 pub number-is : (A : Agreement) (keys s : List ℕ) → readOf A keys s .number ≡ firstOf (slipFaults A keys s)
 unfolding readOf
 number-is A keys s = chosen-number s _ _
+
+pub slip-among : (A : Agreement) (keys s : List ℕ) → Among slipAnswers (readOf A keys s .number)
+slip-among A keys s = subst (Among slipAnswers) (sym (number-is A keys s)) (slip-numbers A keys s)
 
 -- ---- of every answer of the code
 
@@ -100,8 +104,8 @@ module _ (κs : Lfts 2) (a : Dens κs read-k.ps) (x : Reading κs a) where
   pub read-number : x .result .number ≡ fault
   read-number = ap (λ (r : Slip). r .number) (x .ensures) ∙ number-is (a .0) (keysRead κs a) (slipRead κs a)
 
-  pub read-answers : oneOf slipAnswers (x .result .number) ≡ true
-  read-answers = ap (oneOf slipAnswers) read-number ∙ slip-numbers (a .0) (keysRead κs a) (slipRead κs a)
+  pub read-answers : Among slipAnswers (x .result .number)
+  read-answers = subst (Among slipAnswers) (sym read-number) (slip-numbers (a .0) (keysRead κs a) (slipRead κs a))
 
   pub read-calls : x .result .calls ≡ pick (eqb fault 0) (sealCalls (a .0) (slipRead κs a) (keysRead κs a)) 0
   unfolding readOf

@@ -1,5 +1,5 @@
 -- Document 02 §1's words about printing, said of every answer that the contract of `write` allows: the number is that of the first
--- fault, 22, 23, 1 to 6 or 10, and 0 where there is none; a refused call leaves the room as it was and reports zeros
+-- fault, 22, 23, 1 to 5 or 10, and 0 where there is none; a refused call leaves the room as it was and reports zeros
 -- (`write-untouched`); a written slip stands at the front of the room, 27 bytes and the lot's and the tag's, and the rest of the
 -- room is as it was (`write-written`). And both round trips, of every answer of `write`, `read` and `lot`: `written-read`,
 -- `written-lot`, `read-written`.
@@ -18,11 +18,12 @@ use borrow.Fn.Kinds.{Dens}
 use borrow.Author.Tests.{le-ltb, ltb-false, eqb-true, eqb-false}
 use Rattle.bits.specs.Choice.{pick, _given_, firstOf, oneOf}
 use Rattle.bits.specs.Once.{Allowed}
-use Rattle.bits.proofs.Faults.{all, with, Numbered, every-append, every-first, never-first, unlisted, clear-append, first-clear, clear-first, first-append, first-append-clear, Clear, passed, done}
+use Rattle.bits.proofs.Faults.{all, with, Numbered, every-append, never-first, unlisted, clear-append, first-clear, clear-first, first-append, first-append-clear, Clear, passed, done}
 use Rattle.mac.specs.Tag.{bytesFor}
 use Rattle.settings.specs.InUse.{inUse, agreementFaults}
 use Rattle.settings.specs.Faults.{settingsRefusal}
 use Rattle.settings.proofs.Sound.{agreement-every, agreement-numbered, sound-size}
+use Rattle.settings.proofs.Retired.{Among, among}
 use Rattle.settings.specs.declared.Agreement.{Agreement}
 use Rattle.fields.specs.Field.{lengthOf, value}
 use Rattle.fields.specs.Layout.{lotAt, lotField}
@@ -49,7 +50,7 @@ use Rattle.slip.proofs.write.Reads as write
 -- ---- which numbers printing can get
 
 abbrev pub writeAnswers : List ℕ
-writeAnswers = 0 ∷ 1 ∷ 2 ∷ 3 ∷ 4 ∷ 5 ∷ 6 ∷ 10 ∷ 22 ∷ 23 ∷ []
+writeAnswers = 0 ∷ 1 ∷ 2 ∷ 3 ∷ 4 ∷ 5 ∷ 10 ∷ 22 ∷ 23 ∷ []
 
 -- ---- the two kinds of answer
 
@@ -70,11 +71,11 @@ module _ (A : Agreement) (keys : List ℕ) (x : Says) (room : List ℕ) where
   abbrev pub writeFault : ℕ
   writeFault = firstOf (writeFaults A keys x (length room))
 
-  pub write-numbers : oneOf writeAnswers writeFault ≡ true
+  pub write-numbers : Among writeAnswers writeFault
   unfolding writeFaults sealingFaults oneOf
   write-numbers =
-      every-first {P = λ n. oneOf writeAnswers n ≡ true} refl
-      (every-append (says-every refl refl x) (every-append (agreement-every refl refl refl refl refl refl A keys) (with refl all)))
+      among writeAnswers refl refl refl
+      (every-append (says-every refl refl x) (every-append (agreement-every refl refl refl refl refl A keys) (with refl all)))
 
   write-numbered : Numbered (writeFaults A keys x (length room))
   unfolding writeFaults sealingFaults
@@ -131,7 +132,7 @@ module _ (A : Agreement) (keys : List ℕ) (x : Says) (room : List ℕ) where
   says-other = never-first 10 refl (says-every refl refl x)
 
   settings-other : ¬ (firstOf (agreementFaults A keys) ≡ 10)
-  settings-other = never-first 10 refl (agreement-every refl refl refl refl refl refl A keys)
+  settings-other = never-first 10 refl (agreement-every refl refl refl refl refl A keys)
 
   pub room-75 : 75 ≤ length room → ¬ (writeFault ≡ 10)
   unfolding writeFaults sealingFaults
@@ -178,13 +179,13 @@ module _ (κs : Lfts 3) (a : Dens κs write-k.ps) (x : Writing κs a) where
   pub write-number : x .result .number ≡ fault
   write-number = ap (λ (r : Written × List ℕ). r .0 .number) (x .ensures) ∙ number-is (a .0) (keysGiven κs a) (saysGiven κs a) (roomGiven κs a)
 
-  pub write-answers : oneOf writeAnswers (x .result .number) ≡ true
-  write-answers = ap (oneOf writeAnswers) write-number ∙ write-numbers (a .0) (keysGiven κs a) (saysGiven κs a) (roomGiven κs a)
+  pub write-answers : Among writeAnswers (x .result .number)
+  write-answers = subst (Among writeAnswers) (sym write-number) (write-numbers (a .0) (keysGiven κs a) (saysGiven κs a) (roomGiven κs a))
 
   -- what is printed is sealed under the agreement, so the agreement is never unmet (02 §2)
   pub write-never-25 : ¬ (x .result .number ≡ 25)
   unfolding oneOf
-  write-never-25 = unlisted writeAnswers 25 refl write-answers
+  write-never-25 = unlisted writeAnswers 25 refl (write-answers .0)
 
   -- a refused call: its number and zeros, and the room as it was
   pub write-untouched : ¬ (x .result .number ≡ 0) → (x .result, roomLeft) ≡ unwrittenOf fault (roomGiven κs a)

@@ -1,6 +1,6 @@
 -- What `write` rests on: how long a slip is, what a room that is short or long enough gives (`put-short`, `put-fits`), and what the
 -- answer of `tag::make` makes of the slip (`sealing-is`): with room for every tag, a message of 22 to 53 bytes can only be refused
--- 1 to 6.
+-- 1 to 5.
 -- Assumes nothing.
 use mathlib.Core.Path.{_≡_, refl, sym, ap, ap₂, _∙_}
 use mathlib.Core.Bool.{Bool, true, false}
@@ -75,7 +75,7 @@ sealing A front room (No calls) tag = (unwrittenSlip 10, room)
 sealing A front room (Refused number) tag = (unwrittenSlip number, room)
 
 module _ (A : Agreement) (keys front : List ℕ) (whole : covered front ≡ front) (least : 22 ≤ length front) (most : length front ≤ 53) where
-  -- the first of 1 to 6
+  -- the first of 1 to 5
   abbrev no : ℕ
   no = firstOf (agreementFaults A keys)
 
@@ -128,7 +128,7 @@ module _ (A : Agreement) (keys front : List ℕ) (whole : covered front ≡ fron
     unfolding makeOf
     sealing-is = ap (λ (n : ℕ). sealing A front room (made n .0) (made n .1)) (only-settings b long) ∙ by-fault no refl
 
-    -- where a tag was made, nothing of 1 to 6 is there
+    -- where a tag was made, nothing of 1 to 5 is there
     pub made-sound : (calls : ℕ) → makeOf A keys front (8 * length front) b .0 ≡ Made calls → no ≡ 0
     unfolding numberOf
     made-sound calls e = sym (only-settings b long) ∙ sym (make-faults A keys front (8 * length front) b) ∙ ap numberOf e

@@ -283,7 +283,7 @@ fn put_slip(
     }
 }
 
-// The slip of bytes that its seal covers to their last; or 1 to 6, then 10.
+// The slip of bytes that its seal covers to their last; or 1 to 5, then 10.
 fn write_under(agreed: settings::Agreement, keys: &[u8], front: &[u8], room: &mut [u8]) -> Written
     requires { ⌜ (covered (now front) ≡ now front) × (22 ≤ length (now front)) × (length (now front) ≤ 53) ⌝ }
     ensures { λ r. ⌜ (r, now (room .exit)) ≡ writeUnder agreed (now (keys .entry)) (now (front .entry)) (now (room .entry)) ⌝ }

@@ -5,4 +5,5 @@ pub mod CheckRuns
 pub mod Slips
 pub mod Restores
 pub mod OddLengths
+pub mod Listed
 pub mod Unique

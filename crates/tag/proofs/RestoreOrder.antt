@@ -1,4 +1,4 @@
--- The order of the refusals of `restore`, written out (`restore-order`): 1 to 10 as when checking, 3 also for an m that is not a full
+-- The order of the refusals of `restore`, written out (`restore-order`): 1 to 5 and 7 to 10 as when checking, 3 also for an m that is not a full
 -- tag's, then 41. So an agreement of full tags is judged as by `check`, and then by 41 (`order-full`), any other gets 3 at the latest
 -- (`order-not-full`), and algorithm 7 always gets 3, unless 2 comes before it (`order-seven`).
 -- Assumes nothing.
@@ -13,7 +13,7 @@ use Rattle.bits.specs.Choice.{pick, Fault, _given_, firstOf}
 use Rattle.cipher.specs.Cipher.{Cipher}
 use Rattle.cipher.proofs.Laws.{sm4-width}
 use Rattle.mac.specs.Algorithm.{algorithmAt}
-use Rattle.keys.specs.Faults.{keyBytesWrong, keysSame, keysWeak}
+use Rattle.keys.specs.Faults.{keyBytesWrong, keysSame}
 use Rattle.settings.specs.InUse.{inUse}
 use Rattle.settings.specs.Faults.{algorithmWrong, paddingWrong, sizeWrong, settingsFaults}
 use Rattle.settings.specs.Answers.{settingsOf}
@@ -36,7 +36,6 @@ module _ (A : Agreement) (s : List ℕ) (c l j t : ℕ) where
       3 given three ∷
       4 given keyBytesWrong (A .master) (A .algorithm) (length s) ∷
       5 given keysSame (A .algorithm) (inUse A s) ∷
-      6 given keysWeak (A .algorithm) (inUse A s) ∷
       7 given lengthWrong c l ∷
       8 given tooManyBits l ∷
       9 given tooFewBlocks (settingsOf A) l ∷

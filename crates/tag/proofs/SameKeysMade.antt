@@ -30,7 +30,7 @@ use Rattle.mac.specs.Run.{Run}
 use Rattle.mac.specs.Derive.{keysUsed}
 use Rattle.keys.specs.Given.{unpackOf}
 use Rattle.settings.specs.InUse.{inUse}
-use Rattle.keys.specs.Faults.{keyBytes, masterWrong, keyBytesWrong, keysSame, keysWeak}
+use Rattle.keys.specs.Faults.{keyBytes, masterWrong, keyBytesWrong, keysSame}
 use Rattle.settings.specs.Faults.{settingsFaults, algorithmWrong, paddingWrong, sizeWrong}
 use Rattle.settings.specs.Answers.{numberOf}
 use Rattle.settings.specs.declared.Agreement.{Agreement}
@@ -82,7 +82,7 @@ module _ (k : List ℕ) (sixteen : length k ≡ 16) where
 
     -- no rule refuses one and not the other
     faults-same : (c l : ℕ) (ten : Bool) → firstOf (oneCallFaults three (k ++ k) c l ten) ≡ firstOf (oneCallFaults one k c l ten)
-    unfolding oneCallFaults settingsFaults messageFaults firstOf pick algorithmWrong paddingWrong sizeWrong keyBytes masterWrong keyBytesWrong keysSame keysWeak tooFewBlocks algorithmAt
+    unfolding oneCallFaults settingsFaults messageFaults firstOf pick algorithmWrong paddingWrong sizeWrong keyBytes masterWrong keyBytesWrong keysSame tooFewBlocks algorithmAt
     faults-same c l ten = rw (twice, sixteen) refl
 
     tags-same : (x : Bits) → tagged three (inUse three (k ++ k)) x ≡ tagged one (inUse one k) x

@@ -4,7 +4,7 @@
 -- session). Either block of such a message is restored out of any sixteen bytes (`restore-accepted`).
 -- Assumes nothing.
 use mathlib.Core.Path.{_≡_, refl, sym, ap, _∙_}
-use mathlib.Core.Bool.{Bool, true, false, not, _&&_, _||_, true≢false}
+use mathlib.Core.Bool.{Bool, false, not, _&&_, _||_, true≢false}
 use mathlib.Core.List.{List, _∷_, _++_, flatMap}
 use Prim.Native.Nat.{ℕ, suc, _*_, _≤_, _<_}
 use native.Mathlib.Omega.{arith}
@@ -26,7 +26,7 @@ use Rattle.mac.proofs.Numbers.{least-two}
 use Rattle.mac.proofs.OneBlock.{Apart}
 use Rattle.mac.specs.Derive.{keysUsed}
 use Rattle.keys.specs.Given.{unpackOf}
-use Rattle.keys.specs.Faults.{keyBytes, masterWrong, keyBytesWrong, keysSame, keysWeak}
+use Rattle.keys.specs.Faults.{keyBytes, masterWrong, keyBytesWrong, keysSame}
 use Rattle.settings.specs.Faults.{settingsFaults, algorithmWrong, paddingWrong, sizeWrong}
 use Rattle.settings.specs.declared.Agreement.{Agreement}
 use Rattle.message.specs.Faults.{messageFaults, lengthWrong, tooManyBits, tooFewBlocks, roomShort, tagLengthWrong, noSuchBlock}
@@ -57,18 +57,17 @@ used two = keys (bytesBits (front (keysFor two))) (bytesBits (front (drop 16 (ke
 record Good (A : Algorithm) : Type 0 where
   long : not (eqb (length (keysFor (row A .two))) (pick (row A .two) 32 16)) ≡ false
   differ : (row A .differ && sameB (used (row A .two) .k) (used (row A .two) .k′)) || (row A .third && sameB (used (row A .two) .k) (used (row A .two) .k″)) ≡ false
-  strong : row A .third && sameB (used (row A .two) .k′) (used (row A .two) .k″) ≡ false
 
 good : (A : Algorithm) → Good A
 unfolding keysFor front bytesBits flatMap bitsN digit sameB halvesFlipped everySecond pick
-good alg1 = record { long = refl; differ = refl; strong = refl }
-good alg2 = record { long = refl; differ = refl; strong = refl }
-good alg3 = record { long = refl; differ = refl; strong = refl }
-good alg4 = record { long = refl; differ = refl; strong = refl }
-good alg5 = record { long = refl; differ = refl; strong = refl }
-good alg6 = record { long = refl; differ = refl; strong = refl }
-good alg7 = record { long = refl; differ = refl; strong = refl }
-good alg8 = record { long = refl; differ = refl; strong = refl }
+good alg1 = record { long = refl; differ = refl }
+good alg2 = record { long = refl; differ = refl }
+good alg3 = record { long = refl; differ = refl }
+good alg4 = record { long = refl; differ = refl }
+good alg5 = record { long = refl; differ = refl }
+good alg6 = record { long = refl; differ = refl }
+good alg7 = record { long = refl; differ = refl }
+good alg8 = record { long = refl; differ = refl }
 
 -- 256 bits are two blocks at least, and no algorithm asks for more (`least-two`)
 two-blocks : (M : Method) → 2 ≤ blockCount M n 256
@@ -80,7 +79,7 @@ two-blocks method4 = omega arith
 
 pub full-accepted : (a p : ℕ) → algorithmWrong a ≡ false → paddingWrong a p ≡ false → sizeWrong a n ≡ false
     → (x room : List ℕ) → length x ≡ 32 → 16 ≤ length room → makeFault (fullTags a p) (someKeys a) x 256 room ≡ 0
-unfolding oneCallFaults settingsFaults messageFaults someKeys unpackOf keysUsed masterWrong keyBytesWrong keyBytes keysSame keysWeak lengthWrong tooManyBits tooFewBlocks roomShort bytesFor cipherAt pick
+unfolding oneCallFaults settingsFaults messageFaults someKeys unpackOf keysUsed masterWrong keyBytesWrong keyBytes keysSame lengthWrong tooManyBits tooFewBlocks roomShort bytesFor cipherAt pick
 full-accepted a p e1 e2 e3 x room long wide =
     let A = algorithmAt a in
     clear-first
@@ -89,11 +88,10 @@ full-accepted a p e1 e2 e3 x room long wide =
     (passed e3
     (passed (good A .long)
     (passed (good A .differ)
-    (passed (good A .strong)
     (passed (ap not (eq-eqb (length x) 32 long))
     (passed refl
     (passed (le-ltb (blockCount (methodAt p) n 256) (row A .least) (omega (arith, two-blocks (methodAt p), least-two A)))
-    (passed (le-ltb (length room) 16 wide) done))))))))))
+    (passed (le-ltb (length room) 16 wide) done)))))))))
 
 -- a tag of sixteen bytes is as long as it has to be
 full-length : (t : List ℕ) → length t ≡ 16 → tagLengthWrong n (length t) ≡ roomShort n (length t)

@@ -28,7 +28,7 @@ use Rattle.tag.specs.declared.Restored.the-variants.{Filled, Refused}
 unfoldable pub fullOnly : Agreement → Agreement
 fullOnly A = pick (eqb (A .m) (cipherAt 1 .n)) A (record { algorithm = A .algorithm; padding = A .padding; m = 0; master = A .master })
 
--- 1 to 10 as when checking a tag of t bytes, then 41
+-- 1 to 5 and 7 to 10 as when checking a tag of t bytes, then 41
 unfoldable pub restoreFaults : Agreement → List ℕ → ℕ → ℕ → ℕ → ℕ → List Fault
 restoreFaults A s c l j t = oneCallFaults (fullOnly A) s c l (tagLengthWrong (fullOnly A .m) t) ++ (41 given noSuchBlock l j ∷ [])
 

@@ -17,7 +17,7 @@ use Rattle.mac.specs.Algorithm.{algorithmAt, step, steps}
 use Rattle.mac.specs.Tag.{some, H, G, mac, tagOf, bitsOf, bytesFor, byteGroups, tagBytes}
 use Rattle.mac.specs.Derive.{keysUsed, macFrom}
 use Rattle.keys.specs.Given.{unpackOf}
-use Rattle.keys.specs.Faults.{keyBytes, masterWrong, keyBytesWrong, keysSame, keysWeak}
+use Rattle.keys.specs.Faults.{keyBytes, masterWrong, keyBytesWrong, keysSame}
 use Rattle.settings.specs.Faults.{settingsFaults, algorithmWrong, paddingWrong, sizeWrong}
 use Rattle.settings.specs.declared.Agreement.{Agreement}
 use Rattle.message.specs.Faults.{tagLengthWrong}
@@ -41,7 +41,7 @@ abbrev pub agreed : Agreement
 agreed = record { algorithm = 5; padding = 4; m = 64; master = false }
 
 pub accepted-example : readOf agreed key sealed ≡ record { number = 0; calls = 3; contents = record { year = 2026; month = 11; day = 4; amount = 500; «lot_at» = 14; «lot_len» = 2 } }
-unfolding pick firstOf bitsN digit numOf bytesBits flatMap words zeros xorB zipWith xor sameBytes rotl leftmost filled shiftl double halvesFlipped everySecond front sbox FK ck CK CKs quad flat four Sbox τ L L′ T T′ F round rounds made R enc roundKeys encrypted cipherAt methodAt complete gap oneGap prefix suffix pad D algorithmAt step steps some H G mac tagOf macFrom keysUsed bitsOf bytesFor byteGroups tagBytes unpackOf settingsFaults algorithmWrong paddingWrong sizeWrong keyBytes masterWrong keyBytesWrong keysSame keysWeak tagLengthWrong tagAt runAt callsAt outside anyOutside twoBytes lengthOf value endOf fieldFaults digitAt twoDigits yearOf monthOf dayOf days leap daysIn dateWrong lotAt amountAt sealAt lotField amountField sealField covered amountOf expiryFaults lotFaults amountFaults sealFaults layoutFaults namedValues agreementUnmet tagNamed sealDefined sealCalls sealWrong slipFaults contentsOf acceptedSlip readOf
+unfolding pick firstOf bitsN digit numOf bytesBits flatMap words zeros xorB zipWith xor sameBytes rotl leftmost filled shiftl double halvesFlipped everySecond front sbox FK ck CK CKs quad flat four Sbox τ L L′ T T′ F round rounds made R enc roundKeys encrypted cipherAt methodAt complete gap oneGap prefix suffix pad D algorithmAt step steps some H G mac tagOf macFrom keysUsed bitsOf bytesFor byteGroups tagBytes unpackOf settingsFaults algorithmWrong paddingWrong sizeWrong keyBytes masterWrong keyBytesWrong keysSame tagLengthWrong tagAt runAt callsAt outside anyOutside twoBytes lengthOf value endOf fieldFaults digitAt twoDigits yearOf monthOf dayOf days leap daysIn dateWrong lotAt amountAt sealAt lotField amountField sealField covered amountOf expiryFaults lotFaults amountFaults sealFaults layoutFaults namedValues agreementUnmet tagNamed sealDefined sealCalls sealWrong slipFaults contentsOf acceptedSlip readOf
 accepted-example = refl
 
 pub written-example : slipOf agreed key (said 2026 11 4 (0x41 ∷ 0x37 ∷ []) 500) ≡ sealed
