@@ -40,7 +40,6 @@
  *    3  the tag's number of bits is not allowed for the algorithm
  *    4  the keys have the wrong length for the algorithm, or it takes no master
  *    5  the first key is the same as another and must differ
- *    6  the second key is the same as the third and must differ
  *    7  the message has the wrong number of bytes for its bits
  *    8  the message has more than 8388608 bits
  *    9  the message is too short for the algorithm
@@ -59,6 +58,7 @@
  * When a slip is written, 22 and 23 speak of the lot, the amount and the date handed in, and 10 of the room for the whole slip.
  * When a block is restored, 3 speaks of every m but 128. Under a master, 4 speaks also of every algorithm but 2, 4 and 6, whatever
  * the length of the keys; and 5 of the keys in use: in algorithm 4, K must be neither of the derived keys, but may be the master.
+ * 6 is retired: no call answers it, and no other refusal will get this number.
  *
  * Keys stay where the caller put them, and a session's record holds a copy. Copies that a call made on the stack, and the keys that
  * it derived there, are not wiped, and nothing is promised about how long a call takes. */
@@ -98,7 +98,7 @@ typedef struct slipseal_agreement {
  * A record counts as closed where
  *   - its purpose or its agreement's master is neither 0 nor 1;
  *   - it is neither in phase 1 with part 0 and total % 8 = 0, nor in phase 2 with part 1 to 7 and total % 8 = part;
- *   - a start would refuse its agreement or keys, a master with algorithm 3 among them;
+ *   - a start would refuse its agreement or keys, a master with an algorithm that takes none among them;
  *   - its total is over 8388608, or under padding 3 its declared length is, or its total is over its declared length;
  *   - a bit of held past the bits that wait there is set. */
 typedef struct slipseal_session {
@@ -149,35 +149,37 @@ typedef struct slipseal_written {
     uint64_t calls;  /* the cipher calls of the seal, under a master 2 more */
 } slipseal_written;
 
-/* Makes the tag of a message. Refusals: 1 to 10, rising; 10 where tag_len is under (m + 7) / 8, with the agreement's m. Otherwise
- * the tag is written into the first (m + 7) / 8 bytes at tag, the others stay, and the answer has number 0, yes 1 and the calls. */
+/* Makes the tag of a message. Refusals: 1 to 5 and 7 to 10, rising; 10 where tag_len is under (m + 7) / 8, with the agreement's m.
+ * Otherwise the tag is written into the first (m + 7) / 8 bytes at tag, the others stay, and the answer has number 0, yes 1 and
+ * the calls. */
 slipseal_answer slipseal_make(slipseal_agreement agreement, const uint8_t *keys, size_t keys_len, const uint8_t *message,
                               size_t message_len, size_t bits, uint8_t *tag, size_t tag_len);
 
-/* Checks the tag of a message. Refusals: 1 to 10, rising; 10 where tag_len is not (m + 7) / 8. Otherwise number is 0, yes is 1
- * where the tag is the message's and 0 where it is not (a set spare bit too), and either way the calls are reported. */
+/* Checks the tag of a message. Refusals: 1 to 5 and 7 to 10, rising; 10 where tag_len is not (m + 7) / 8. Otherwise number is 0,
+ * yes is 1 where the tag is the message's and 0 where it is not (a set spare bit too), and either way the calls are reported. */
 slipseal_answer slipseal_check(slipseal_agreement agreement, const uint8_t *keys, size_t keys_len, const uint8_t *message,
                                size_t message_len, size_t bits, const uint8_t *tag, size_t tag_len);
 
 /* Works a lost block of a message out of the other bits and the full tag, and writes it where it was. Blocks are whole ones of 128
- * bits, counted from 0 in the message's bits; the block with the length, of padding 3, is not counted. Refusals: 1 to 10, rising,
- * as by slipseal_check, 3 also where m is not 128 (algorithm 7 always gets it); then 41 where there is no such whole block, that
- * is, where block is not under bits / 128. The answer is the refusal's number, and the message then stays as it was. Otherwise it
- * is 0, and the sixteen bytes at message + 16 * block are written. What they held has no influence, and no other byte is touched.
- * They are the only filling that the tag fits; slipseal_check says yes with the same inputs. Cipher calls are not reported.
+ * bits, counted from 0 in the message's bits; the block with the length, of padding 3, is not counted. Refusals: 1 to 5 and 7 to
+ * 10, rising, as by slipseal_check, 3 also where m is not 128 (algorithm 7 always gets it); then 41 where there is no such whole
+ * block, that is, where block is not under bits / 128. The answer is the refusal's number, and the message then stays as it was.
+ * Otherwise it is 0, and the sixteen bytes at message + 16 * block are written. What they held has no influence, and no other byte
+ * is touched. They are the only filling that the tag fits; slipseal_check says yes with the same inputs. Cipher calls are not
+ * reported.
  * What a restored block is worth: no more than the tag and the rest of the message. Every tag has exactly one filling. A false
  * tag, or an altered byte elsewhere in the message, restores to some block too, and slipseal_check says yes to that as well. After
  * a restoration its yes is no evidence for any byte of the message. */
 uint64_t slipseal_restore(slipseal_agreement agreement, const uint8_t *keys, size_t keys_len, uint8_t *message,
                           size_t message_len, size_t bits, size_t block, const uint8_t *tag, size_t tag_len);
 
-/* Starts a session that makes a tag. declared is the message's number of bits; it is read under padding 3 only. Refusals: 1 to 6,
+/* Starts a session that makes a tag. declared is the message's number of bits; it is read under padding 3 only. Refusals: 1 to 5,
  * rising, then 8 where the declared length is over 8388608. A refused start hands back a closed record of zeros. Otherwise the
  * answer is all zeros and the record is open. */
 slipseal_step slipseal_start(slipseal_agreement agreement, const uint8_t *keys, size_t keys_len, size_t declared);
 
 /* Starts a session that checks a tag, for a message that comes in pieces after its tag. declared is as for slipseal_start.
- * Refusals: 1 to 6, rising, then 8 where the declared length is over 8388608, and last 10 where tag_len is not (m + 7) / 8. A
+ * Refusals: 1 to 5, rising, then 8 where the declared length is over 8388608, and last 10 where tag_len is not (m + 7) / 8. A
  * refused start hands back a closed record of zeros. Otherwise the answer is all zeros and the record is open. It holds the tag's
  * bytes as they were given, spare bits too; nothing is said of them before slipseal_finish_check. */
 slipseal_step slipseal_start_check(slipseal_agreement agreement, const uint8_t *keys, size_t keys_len, size_t declared,
@@ -209,7 +211,7 @@ slipseal_step slipseal_finish_check(slipseal_session session);
  * The bytes are the whole slip. Where it comes in several reads, gather them first, with slipseal_gather.
  * Refusals, in this order: at each of the fields 01, 02, 03 and 7F, 20 for under 3 bytes left, 21 for another tag, 22 for a length
  * that is not allowed, 20 for a value cut short, 22 for a wrong value, 23 for no real date of 2000 to 2099; then 24 for bytes after
- * the seal; 25 where the seal names another algorithm, padding or m than agreed, however well its tag fits; 1 to 6 for the
+ * the seal; 25 where the seal names another algorithm, padding or m than agreed, however well its tag fits; 1 to 5 for the
  * agreement and the keys; 10 where the seal's tag is not (m + 7) / 8 bytes long; 30 for a wrong seal.
  * A slip does not name the master, and 25 does not look at it: whether one is in use is the agreement's alone to say. Where
  * it says so wrongly, the slip is judged under other keys, and as a rule gets 4 or 30.
@@ -248,7 +250,7 @@ slipseal_slip slipseal_read_gathered(slipseal_agreement agreement, const uint8_t
 
 /* Writes a lot slip: the fields 01, 02, 03 and 7F one after the other, 27 + lot_len + (m + 7) / 8 bytes in all. Room of 75 bytes is
  * enough for any slip; the lot must not lie in it. Refusals, in this order: 22 where the lot is not 1 to 32 bytes, each 21 to 7E, or
- * the amount is not 1 to 1000000 microlitres; 23 where year, month and day are no real date of 2000 to 2099; 1 to 6; 10 where
+ * the amount is not 1 to 1000000 microlitres; 23 where year, month and day are no real date of 2000 to 2099; 1 to 5; 10 where
  * room_len is short of the whole slip. Otherwise the slip is written into the first bytes at room, the others stay, and the answer
  * has number 0, the slip's length and the calls.
  * slipseal_read accepts the slip under the same agreement and keys and gives date, lot, amount and calls back. An accepted slip,

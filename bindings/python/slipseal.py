@@ -56,7 +56,6 @@ WORDS = {
     3: "the tag's number of bits is not allowed for the algorithm",
     4: "the keys have the wrong length for the algorithm, or it takes no master",
     5: "the first key is the same as another and must differ",
-    6: "the second key is the same as the third and must differ",
     7: "the message has the wrong number of bytes for its bits",
     8: "the message has more than 8388608 bits",
     9: "the message is too short for the algorithm",
@@ -146,7 +145,7 @@ class Slip(NamedTuple):
 
 
 def make(agreement: Agreement, keys: Bytes, message: Bytes, bits: Optional[int] = None) -> Made:
-    """Makes the tag of a message. Refused with the first that applies of 1 to 9.
+    """Makes the tag of a message. Refused with the first that applies of 1 to 5 and 7 to 9.
 
     >>> key = bytes.fromhex("0123456789ABCDEFFEDCBA9876543210")
     >>> made = make(Agreement(5, 4, 64), key, b"This is the test message for mac")
@@ -169,7 +168,7 @@ def make(agreement: Agreement, keys: Bytes, message: Bytes, bits: Optional[int] 
 
 def check(agreement: Agreement, keys: Bytes, message: Bytes, tag: Bytes, bits: Optional[int] = None) -> Checked:
     """Checks the tag of a message. The answer is true or false; a wrong tag raises nothing. Refused with the first that applies
-    of 1 to 10; 10 where the tag is not exactly (m + 7) // 8 bytes.
+    of 1 to 5 and 7 to 10; 10 where the tag is not exactly (m + 7) // 8 bytes.
 
     >>> key = bytes.fromhex("0123456789ABCDEFFEDCBA9876543210")
     >>> agreement, message = Agreement(5, 4, 64), b"This is the test message for mac"
@@ -196,8 +195,8 @@ def restore(
     an altered byte elsewhere in the message, restores to some block too, and check says yes to that as well. After a restoration
     its yes is no evidence for any byte of the message.
 
-    Refused with the first that applies of 1 to 10, as check is, 3 also where m is not 128 (algorithm 7 always gets it); then 41
-    where there is no such whole block.
+    Refused with the first that applies of 1 to 5 and 7 to 10, as check is, 3 also where m is not 128 (algorithm 7 always gets it);
+    then 41 where there is no such whole block.
 
     >>> key, agreement = bytes.fromhex("0123456789ABCDEFFEDCBA9876543210"), Agreement(5, 4, 128)
     >>> tag = bytes.fromhex("692c437100f3b5ee2b8abcef373d990c")
@@ -253,7 +252,7 @@ class Session(_Pieces):
 
     def __init__(self, agreement: Agreement, keys: Bytes, declared: int = 0) -> None:
         """Starts. declared is the message's number of bits, read under padding 3 only. Refused with the first that applies of 1
-        to 6, then 8 for the declared length."""
+        to 5, then 8 for the declared length."""
         step = _library.slipseal_start(_agreed(agreement), *_slice(keys), *_numbers(declared))
         _accept(step.answer.number)
         self._record = step.session
@@ -284,7 +283,7 @@ class CheckingSession(_Pieces):
 
     def __init__(self, agreement: Agreement, keys: Bytes, declared: int, tag: Bytes) -> None:
         """Starts. declared is the message's number of bits, read under padding 3 only. Refused with the first that applies of 1
-        to 6, then 8 for the declared length, and last 10 where the tag is not exactly (m + 7) // 8 bytes."""
+        to 5, then 8 for the declared length, and last 10 where the tag is not exactly (m + 7) // 8 bytes."""
         step = _library.slipseal_start_check(_agreed(agreement), *_slice(keys), *_numbers(declared), *_slice(tag))
         _accept(step.answer.number)
         self._record = step.session
@@ -353,7 +352,7 @@ def read_slip(agreement: Agreement, keys: Bytes, slip: Bytes) -> Slip:
     The bytes are the whole slip. Where it comes in several reads, take read_slip_from or a SlipReader.
 
     Refused with 20 to 24 for the slip's form, field by field; 25 where its seal names another algorithm, padding or m than agreed,
-    however well the tag fits; then 1 to 6, 10, and 30 where the seal is wrong.
+    however well the tag fits; then 1 to 5, 10, and 30 where the seal is wrong.
 
     A slip does not name the master, and 25 does not look at it: whether one is in use is the agreement's alone to say. Where it says
     so wrongly, the slip is judged under other keys, and as a rule gets 4 or 30.
@@ -458,7 +457,7 @@ def read_slip_from(agreement: Agreement, keys: Bytes, file: BinaryIO) -> Slip:
 def write_slip(agreement: Agreement, keys: Bytes, expiry: Date, lot: Bytes, amount: int) -> bytes:
     """Writes a lot slip, sealed under an agreement and keys. The expiry is a datetime.date or a tuple of year, month and day; the lot
     1 to 32 bytes, each 21 to 7E; the amount 1 to 1,000,000 microlitres. Refused with the first that applies of 22 (lot or amount),
-    23 (expiry), 1 to 6.
+    23 (expiry), 1 to 5.
 
     read_slip accepts the slip under the same agreement and keys, gives expiry, lot and amount back and tells the cipher calls. An
     accepted slip, written again under the same agreement and keys, comes out the same byte for byte.

@@ -65,7 +65,7 @@ impl Session {
     ///
     /// # Errors
     ///
-    /// The first that applies of 1 to 6, rising, then 8 for the declared length, and last 10 where the tag is not exactly ⌈m/8⌉
+    /// The first that applies of 1 to 5, rising, then 8 for the declared length, and last 10 where the tag is not exactly ⌈m/8⌉
     /// bytes.
     pub fn check(
         agreement: Agreement,

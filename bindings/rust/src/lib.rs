@@ -136,7 +136,7 @@ impl<R> Checked<R> {
 ///
 /// # Errors
 ///
-/// The first that applies of 1 to 10, rising; 10 where the room is under ⌈m/8⌉ bytes. The room is then as before.
+/// The first that applies of 1 to 5 and 7 to 10, rising; 10 where the room is under ⌈m/8⌉ bytes. The room is then as before.
 ///
 /// ```
 /// use slipseal::{make, Agreement};
@@ -160,7 +160,7 @@ pub fn make<'a>(
 
 /// Checks the tag of a message's first `bits` bits.
 ///
-/// Refused with the first that applies of 1 to 10, rising; 10 where the tag is not exactly ⌈m/8⌉ bytes.
+/// Refused with the first that applies of 1 to 5 and 7 to 10, rising; 10 where the tag is not exactly ⌈m/8⌉ bytes.
 ///
 /// ```
 /// use slipseal::{check, Agreement, Checked};
@@ -182,8 +182,8 @@ pub fn check(agreement: Agreement, keys: &[u8], message: &[u8], bits: usize, tag
 ///
 /// # Errors
 ///
-/// The first that applies of 1 to 10, rising, as for [`check`], 3 also where m is not 128 (algorithm 7 always gets it); then 41
-/// where there is no such whole block. The message is then as before.
+/// The first that applies of 1 to 5 and 7 to 10, rising, as for [`check`], 3 also where m is not 128 (algorithm 7 always gets it);
+/// then 41 where there is no such whole block. The message is then as before.
 ///
 /// ```
 /// use slipseal::{make, restore, Agreement};

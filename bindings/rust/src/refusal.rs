@@ -31,7 +31,6 @@ impl Refusal {
             3 => "the tag's number of bits is not allowed for the algorithm",
             4 => "the keys have the wrong length for the algorithm, or it takes no master",
             5 => "the first key is the same as another and must differ",
-            6 => "the second key is the same as the third and must differ",
             7 => "the message has the wrong number of bytes for its bits",
             8 => "the message has more than 8388608 bits",
             9 => "the message is too short for the algorithm",

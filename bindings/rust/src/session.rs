@@ -40,7 +40,7 @@ impl Session {
     ///
     /// # Errors
     ///
-    /// The first that applies of 1 to 6, rising, then 8 for the declared length.
+    /// The first that applies of 1 to 5, rising, then 8 for the declared length.
     pub fn start(agreement: Agreement, keys: &[u8], declared: usize) -> Result<Session, Refusal> {
         let step = raw::start(agreement.into(), keys, declared);
         Refusal::of(step.answer.number)?;

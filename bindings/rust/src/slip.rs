@@ -49,7 +49,7 @@ pub struct Written<'a> {
 /// # Errors
 ///
 /// 20 to 24 for the slip's form, field by field; 25 where its seal names another algorithm, padding or m than agreed, however well
-/// the tag fits; then 1 to 6, 10, and 30 where the seal is wrong.
+/// the tag fits; then 1 to 5, 10, and 30 where the seal is wrong.
 ///
 /// ```
 /// use slipseal::{read_slip, Agreement};
@@ -97,7 +97,7 @@ pub(crate) fn told(read: raw::Slip, bytes: &[u8]) -> Result<Slip<'_>, Refusal> {
 ///
 /// # Errors
 ///
-/// The first that applies of 22 (lot or amount), 23 (date), 1 to 6, and 10 where the room is short of the whole slip. The room is
+/// The first that applies of 22 (lot or amount), 23 (date), 1 to 5, and 10 where the room is short of the whole slip. The room is
 /// then as before.
 ///
 /// ```

@@ -1,4 +1,4 @@
--- Refusals 1 to 5 of document 01: a test for each fault, in the words of its column (4 to 6 stand in crate keys), and the order.
+-- Refusals 1 to 5 of document 01: a test for each fault, in the words of its column (4 and 5 stand in crate keys), and the order.
 -- Assumes nothing.
 use mathlib.Core.Bool.{Bool, _||_, not}
 use mathlib.Core.List.{List, [], _∷_}

@@ -38,7 +38,7 @@ pub(crate) fn print_refusal(number: usize) {
     print(b"\n");
 }
 
-// A slip gets 1 to 6, 10 and 20 to 30, a certificate 1 to 6, 8 to 10 and 12; 7, 11 and 41 are other calls' answers.
+// A slip gets 1 to 5, 10 and 20 to 30, a certificate 1 to 5, 8 to 10 and 12; 7, 11 and 41 are other calls' answers; 6 is retired.
 fn print_meaning(number: usize) {
     if number < 7 {
         print_meaning_of_settings(number);
@@ -62,7 +62,6 @@ fn print_meaning_of_settings(number: usize) {
         3 => print(b"the tag's number of bits is not allowed for the algorithm"),
         4 => print(b"the keys have the wrong length for the algorithm, or it takes no master"),
         5 => print(b"the first key is the same as another and must differ"),
-        6 => print(b"the second key is the same as the third and must differ"),
         _ => print_no_meaning(),
     }
 }

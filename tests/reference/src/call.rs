@@ -1,4 +1,4 @@
-//! Making and checking a tag in one call, and the refusals 1 to 10.
+//! Making and checking a tag in one call, and the refusals 1 to 5 and 7 to 10.
 
 use crate::derive::{in_use, key_bytes};
 use crate::mac::{self, two_keys};
@@ -33,7 +33,7 @@ impl Answer {
     }
 }
 
-/// The first of refusals 1 to 6 that applies, or 0.
+/// The first of refusals 1 to 5 that applies, or 0.
 pub fn settings_refusal(agreement: Agreement, keys: &[u8]) -> u64 {
     let Agreement { algorithm, padding, m, .. } = agreement;
     if !(1..=8).contains(&algorithm) {
@@ -55,13 +55,10 @@ pub fn settings_refusal(agreement: Agreement, keys: &[u8]) -> u64 {
     if k == k1 || algorithm == 4 && k == k2 {
         return 5;
     }
-    if algorithm == 4 && k1 == k2 {
-        return 6; // never: K'' differs from K' in every byte, or the two are different blocks enciphered under one key
-    }
     0
 }
 
-/// The first of refusals 1 to 10 that applies, or 0; `length_fits` holds a room or a tag to ⌈m/8⌉ bytes.
+/// The first of refusals 1 to 5 and 7 to 10 that applies, or 0; `length_fits` holds a room or a tag to ⌈m/8⌉ bytes.
 pub fn call_refusal(
     agreement: Agreement,
     keys: &[u8],
@@ -79,7 +76,7 @@ pub fn call_refusal(
     }
 }
 
-/// The tag (its first ⌈m/8⌉ bytes), ⌈m/8⌉ and the calls, or the first refusal of 1 to 10.
+/// The tag (its first ⌈m/8⌉ bytes), ⌈m/8⌉ and the calls, or the first refusal of 1 to 5 and 7 to 10.
 fn tag_of(
     agreement: Agreement,
     keys: &[u8],

@@ -54,7 +54,7 @@
 //!
 //! # A slip to be written
 //!
-//! 1. Settings; again, while they get one of 1 to 6 and then below(3) is not 0. 2. to 5. as of a slip.
+//! 1. Settings; again, while they get one of 1 to 5 and then below(3) is not 0. 2. to 5. as of a slip.
 //! 6. by below(24): 0, 1: i = below(lot length, or 1 if that is 0), then lot byte i, if there is one, becomes
 //!    below(256) with 0 and EDGES[below(8)] with 1; else nothing.
 //! 7. by below(32): 0: year, 1: month, 2: day, 3: amount plus 1 << WIDE[below(8)]; else nothing.

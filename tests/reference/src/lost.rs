@@ -26,7 +26,7 @@ fn filling(agreement: Agreement, keys: &[u8], message: &[u8], bits: u64, j: u64,
 }
 
 /// Puts the block of this number, counted from 0 in the message, to what the tag asks for, and answers 0; or a refusal, and every
-/// byte stays: 1 to 10 as when checking, 3 also for m other than 128, then 41.
+/// byte stays: 1 to 5 and 7 to 10 as when checking, 3 also for m other than 128, then 41.
 pub fn restore(
     agreement: Agreement,
     keys: &[u8],

@@ -192,7 +192,7 @@ impl Engine {
     }
 }
 
-/// G and the number of cipher calls, for inputs that refusals 1 to 9 let pass.
+/// G and the number of cipher calls, for inputs that refusals 1 to 5 and 7 to 9 let pass.
 pub fn output(agreement: Agreement, keys: &[u8], message: &[u8], bits: u64) -> (Block, u64) {
     let (padding, mut engine) = (agreement.padding, Engine::new(agreement, keys));
     let q = padding::q(padding, bits);

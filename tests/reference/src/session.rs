@@ -101,7 +101,7 @@ fn begun(agreement: Agreement, keys: &[u8], declared: u64) -> Record {
     record
 }
 
-/// Starts a session that makes a tag; `declared` is read with padding 3 only. Refusals 1 to 6, then 8.
+/// Starts a session that makes a tag; `declared` is read with padding 3 only. Refusals 1 to 5, then 8.
 /// An accepted start, like an accepted piece, answers number 0, yes 0, calls 0.
 pub fn start(agreement: Agreement, keys: &[u8], declared: u64) -> (Record, Answer) {
     match start_refusal(agreement, keys, declared) {
@@ -110,7 +110,7 @@ pub fn start(agreement: Agreement, keys: &[u8], declared: u64) -> (Record, Answe
     }
 }
 
-/// Starts a session that checks this tag. Refusals 1 to 6, then 8, then 10 for a tag that has not just ⌈m/8⌉ bytes.
+/// Starts a session that checks this tag. Refusals 1 to 5, then 8, then 10 for a tag that has not just ⌈m/8⌉ bytes.
 pub fn start_check(agreement: Agreement, keys: &[u8], declared: u64, tag: &[u8]) -> (Record, Answer) {
     let number = match start_refusal(agreement, keys, declared) {
         0 if tag.len() as u64 != bytes_for(agreement.m) => 10,

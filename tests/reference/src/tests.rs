@@ -325,7 +325,7 @@ fn algorithm_4_needs_two_blocks() {
 }
 
 /// Each row shows the earlier of two neighbouring faults. Excluded by the rules themselves: 4 with 5
-/// (no K' to compare), 6 at all, 8 with 9 (too long has q >= 2), finish 12 with 9 (padding 3 has q >= 2).
+/// (no K' to compare), 8 with 9 (too long has q >= 2), finish 12 with 9 (padding 3 has q >= 2).
 #[test]
 fn order_of_refusals_in_one_call() {
     let (kk, same) = (h(KK), [h(K), h(K)].concat());
@@ -359,7 +359,7 @@ fn order_of_refusals_in_one_call() {
         assert_eq!(make(agreed(a, p, m), keys, message, bits, &mut tag[..room]), number(wanted), "row {i}");
         assert_eq!(check(agreed(a, p, m), keys, message, bits, &tag[..room]), number(wanted), "row {i}");
         assert_eq!(tag, [0x5A; 16]);
-        if wanted <= 6 {
+        if wanted <= 5 {
             // the same at a session's start, with 8 as a further fault
             let refused = start(agreed(a, p, m), keys, u64::MAX);
             assert_eq!(refused, (Record::default(), number(wanted)), "row {i}");
@@ -637,7 +637,7 @@ fn slip_refusals() {
     let two = p12("7F000B020240A47A9299C7B8456C");
     assert_eq!(read(named(&two), &[h(K), h(K)].concat(), &two), refused(5));
     assert_eq!(read(named(&two), &h(K), &two), refused(4));
-    // order: 22 of a digit before 23, 24 before 1 to 6, 4 before 10, 10 before 30
+    // order: 22 of a digit before 23, 24 before 1 to 5, 4 before 10, 10 before 30
     assert_eq!(read(NAMED, &h(K), &slip("2023 229", b"A", 1)), refused(22));
     let long = [&first[..], &[0]].concat();
     let two_faults = [&long[..26], &[0], &long[27..]].concat();
@@ -1070,7 +1070,7 @@ fn write_refusals() {
     }
 }
 
-/// Every fault alone, and any two of them at once: the earlier one answers. 6 cannot arise.
+/// Every fault alone, and any two of them at once: the earlier one answers.
 #[test]
 fn order_of_refusals_when_writing() {
     let good = Print::p12(agreed(2, 1, 64), KK);

@@ -113,7 +113,7 @@ fn the_other_finish() {
     }
 }
 
-/// 1 to 6, then 8, then 10: the earlier of two faults answers, and a refused start hands back zeros.
+/// 1 to 5, then 8, then 10: the earlier of two faults answers, and a refused start hands back zeros.
 #[test]
 fn order_of_refusals_at_the_start() {
     let (kk, same) = (h(KK), [h(K), h(K)].concat());

@@ -251,8 +251,8 @@ fn the_longest_message() {
     }
 }
 
-/// Any settings and lengths: under m = 128 the numbers 1 to 10 are those of a check; a refusal leaves every byte; a filled message
-/// differs inside the block alone, and its check says yes.
+/// Any settings and lengths: under m = 128 the numbers 1 to 5 and 7 to 10 are those of a check; a refusal leaves every byte; a
+/// filled message differs inside the block alone, and its check says yes.
 #[test]
 fn drawn_restores() {
     let mut random = Random::new(12);
