@@ -2,7 +2,7 @@
 -- the others 31. Proved by one computed test over each row. So a date that passes is a real one (`real-date`).
 -- Assumes nothing.
 use mathlib.Core.Path.{_≡_, refl, sym, ap, _∙_, subst}
-use mathlib.Core.Bool.{Bool, true, false, _||_, _&&_, true≢false}
+use mathlib.Core.Bool.{Bool, true, false, _||_, _&&_}
 use mathlib.Core.List.{[]}
 use Prim.Native.Nat.{ℕ, zero, suc, _+_, _-_, _≤_, _<_}
 use native.Mathlib.Omega.{arith}
@@ -10,9 +10,10 @@ use lib.ListN.{getD}
 use lib.Dec.{eqb}
 use borrow.Author.Tests.{eqb-true, eqb-false}
 use Rattle.bits.specs.Choice.{pick}
+use Rattle.bits.proofs.Strings.{and-both, neither}
 use Rattle.fields.specs.Field.{outside}
 use Rattle.fields.specs.Date.{days, leap, daysIn, dateWrong}
-use Rattle.fields.proofs.Formed.{Within, within, neither}
+use Rattle.fields.proofs.Formed.{Within, within}
 
 unfoldable pub calendar : Bool → ℕ → ℕ
 calendar leapYear month =
@@ -23,17 +24,13 @@ alike : (ℕ → ℕ) → (ℕ → ℕ) → ℕ → Bool
 alike f g zero = true
 alike f g (suc n) = eqb (f n) (g n) && alike f g n
 
-both : (t u : Bool) → (t && u) ≡ true → (t ≡ true) × (u ≡ true)
-both true u e = (refl, e)
-both false u e = absurd (true≢false (sym e))
-
 alike-at : (f g : ℕ → ℕ) (n : ℕ) → alike f g n ≡ true → (i : ℕ) → i < n → f i ≡ g i
 unfolding alike
 alike-at f g zero e i h = absurd (omega arith)
-alike-at f g (suc n) e i h = go (eqb i n) refl (alike-at f g n (both (eqb (f n) (g n)) (alike f g n) e .1) i)
+alike-at f g (suc n) e i h = go (eqb i n) refl (alike-at f g n (and-both (eqb (f n) (g n)) (alike f g n) e .1) i)
   where
     go : (b : Bool) → eqb i n ≡ b → (i < n → f i ≡ g i) → f i ≡ g i
-    go true w below = ap f (eqb-true i n w) ∙ eqb-true (f n) (g n) (both (eqb (f n) (g n)) (alike f g n) e .0) ∙ sym (ap g (eqb-true i n w))
+    go true w below = ap f (eqb-true i n w) ∙ eqb-true (f n) (g n) (and-both (eqb (f n) (g n)) (alike f g n) e .0) ∙ sym (ap g (eqb-true i n w))
     go false w below = let apart = eqb-false i n w in below (omega arith)
 
 row : (b : Bool) → alike (λ k. getD (getD days (pick b 1 0) []) k 0) (λ k. calendar b (k + 1)) 12 ≡ true

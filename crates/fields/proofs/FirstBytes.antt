@@ -13,7 +13,7 @@ use lib.Dec.{eqb, ltb}
 use borrow.Author.Tests.{lt-ltb, le-ltb}
 use Rattle.bits.specs.Choice.{pick, Fault, _given_, firstOf}
 use Rattle.bits.proofs.Lists.{drop-take}
-use Rattle.bits.proofs.Faults.{Numbered, first-clear, first-append, first-append-clear}
+use Rattle.bits.proofs.Faults.{Numbered, first-clear, first-append, first-append-clear, first-front}
 use Rattle.fields.specs.Format.{expiryRow, lotRow, amountRow, sealRow}
 use Rattle.fields.specs.Field.{outside, anyOutside, twoBytes, lengthOf, value, endOf, fieldFaults}
 use Rattle.fields.specs.Date.{digitAt, twoDigits, yearOf, monthOf, dayOf}
@@ -33,13 +33,6 @@ then-same fs fs′ gs gs′ o o′ e rest = go (firstOf fs) refl
     go : (n : ℕ) → firstOf fs ≡ n → firstOf (fs ++ gs) ≡ firstOf (fs′ ++ gs′)
     go zero z = first-append-clear fs gs o z ∙ rest z ∙ sym (first-append-clear fs′ gs′ o′ (sym e ∙ z))
     go (suc n) z = first-append fs gs (λ c. absurd (omega arith)) ∙ e ∙ sym (first-append fs′ gs′ (λ c. absurd (omega arith)))
-
--- where two lists are clear, the first one is
-front-clear : (fs gs : List Fault) → firstOf (fs ++ gs) ≡ 0 → firstOf fs ≡ 0
-unfolding firstOf pick
-front-clear [] gs e = refl
-front-clear (k given true ∷ fs) gs e = e
-front-clear (k given false ∷ fs) gs e = front-clear fs gs e
 
 -- a field that is clear names no length over the most
 length-most : (row : Row) (field : List ℕ) → firstOf (fieldFaults row field) ≡ 0 → lengthOf field ≤ row .most
@@ -146,7 +139,7 @@ module _ (n : ℕ) (f g : List ℕ) (alike : Alike n f g) where
 module _ (s t : List ℕ) where
   lot-next : Alike 76 s t → firstOf (expiryFaults s) ≡ 0 → Alike 65 (lotField s) (lotField t)
   unfolding expiryFaults lotField lotAt
-  lot-next alike e = next-alike 76 s t alike expiryRow 65 (omega arith) (front-clear (fieldFaults expiryRow s) _ e)
+  lot-next alike e = next-alike 76 s t alike expiryRow 65 (omega arith) (first-front (fieldFaults expiryRow s) _ e)
 
   amount-next : Alike 65 (lotField s) (lotField t) → firstOf (lotFaults (lotField s)) ≡ 0 → Alike 30 (amountField s) (amountField t)
   unfolding lotFaults
@@ -154,7 +147,7 @@ module _ (s t : List ℕ) where
 
   seal-next : Alike 30 (amountField s) (amountField t) → firstOf (amountFaults (amountField s)) ≡ 0 → Alike 23 (sealField s) (sealField t)
   unfolding amountFaults
-  seal-next alike e = subst₂ (Alike 23) (after-amount s) (after-amount t) (next-alike 30 (amountField s) (amountField t) alike amountRow 23 (omega arith) (front-clear (fieldFaults amountRow (amountField s)) _ e))
+  seal-next alike e = subst₂ (Alike 23) (after-amount s) (after-amount t) (next-alike 30 (amountField s) (amountField t) alike amountRow 23 (omega arith) (first-front (fieldFaults amountRow (amountField s)) _ e))
 
 -- 76 bytes are 11 of the expiry, 35 of the longest lot, 7 of the amount, 22 of the longest seal, and one more
 pub layout-alike : (s t : List ℕ) → Alike 76 s t → firstOf (layoutFaults s) ≡ firstOf (layoutFaults t)

@@ -2,7 +2,7 @@
 -- the range. And how a list of refusals goes on after another.
 -- Assumes nothing.
 use mathlib.Core.Path.{_≡_, refl, sym, ap, _∙_}
-use mathlib.Core.Bool.{Bool, true, false, _||_, true≢false}
+use mathlib.Core.Bool.{Bool, false, _||_}
 use mathlib.Core.List.{List, [], _∷_, _++_}
 use Prim.Native.Nat.{ℕ, zero, suc, _+_, _-_, _≤_, _<_}
 use native.Mathlib.Omega.{arith}
@@ -11,6 +11,7 @@ use lib.Seq.{drop-cons}
 use lib.Dec.{ltb}
 use borrow.Author.Tests.{ltb-false, le-ltb, eqb-true, not-false}
 use Rattle.bits.specs.Choice.{pick, Fault, _given_, firstOf}
+use Rattle.bits.proofs.Strings.{neither}
 use Rattle.bits.proofs.Faults.{Clear, passed, done, Every, all, with, Numbered, first-append, first-append-clear}
 use Rattle.fields.specs.Field.{outside, anyOutside, lengthOf, value, endOf, fieldFaults}
 use Rattle.fields.specs.declared.Row.{Row}
@@ -21,10 +22,6 @@ use Rattle.fields.specs.declared.Row.{Row}
 pub record Within (least most x : ℕ) : Type 0 where
   pub low : least ≤ x
   pub high : x ≤ most
-
-pub neither : (t u : Bool) → (t || u) ≡ false → (t ≡ false) × (u ≡ false)
-neither true u e = absurd (true≢false e)
-neither false u e = (refl, e)
 
 pub within : (least most x : ℕ) → outside least most x ≡ false → Within least most x
 unfolding outside

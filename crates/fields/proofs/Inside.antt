@@ -14,7 +14,7 @@ use Rattle.fields.specs.Field.{lengthOf, endOf}
 use Rattle.fields.specs.Layout.{lotAt, amountAt, sealAt, sealField, placesOf}
 use Rattle.fields.specs.declared.Places.{Places}
 
-pub end-there : (field : List ℕ) → endOf field ≤ length field
+end-there : (field : List ℕ) → endOf field ≤ length field
 unfolding endOf pick
 end-there field = go (ltb (length field) (3 + lengthOf field)) refl
   where

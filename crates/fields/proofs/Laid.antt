@@ -90,11 +90,11 @@ module _ (s : List ℕ) (ok : LaidOut s) where
   unfolding lotAt
   lot-place = omega (arith, end-whole s (ok .expiry .whole), ok .expiry .allowed .low, ok .expiry .allowed .high)
 
-  pub amount-place : amountAt s ≡ 14 + lengthOf (lotField s)
+  amount-place : amountAt s ≡ 14 + lengthOf (lotField s)
   unfolding amountAt lotField
   amount-place = omega (arith, lot-place, end-whole (lotField s) (ok .lot .whole))
 
-  pub seal-place : sealAt s ≡ 21 + lengthOf (lotField s)
+  seal-place : sealAt s ≡ 21 + lengthOf (lotField s)
   unfolding sealAt amountField
   seal-place = omega (arith, amount-place, end-whole (amountField s) (ok .amount .whole), ok .amount .allowed .low, ok .amount .allowed .high)
 

@@ -9,11 +9,12 @@ use Prim.Native.Nat.{ℕ, zero, suc, _/_, _%_, _<_}
 use native.Mathlib.Omega.{arith}
 use lib.ListN.{length, take, drop, getD, length-drop, take-append-drop, drop-of-length-le}
 use lib.Seq.{drop-cons, drop-drop, length-take-le}
+use Rattle.bits.proofs.Strings.{neither}
 use Rattle.fields.specs.Format.{expiryRow, lotRow, amountRow, sealRow}
 use Rattle.fields.specs.Field.{anyOutside, twoBytes, lengthOf, value, endOf, fieldOf}
 use Rattle.fields.specs.Layout.{lotAt, amountAt, sealAt, lotField, amountField, sealField, covered}
 use Rattle.fields.specs.declared.Row.{Row}
-use Rattle.fields.proofs.Formed.{Formed, neither, within, end-whole}
+use Rattle.fields.proofs.Formed.{Formed, within, end-whole}
 use Rattle.fields.proofs.Laid.{LaidOut}
 
 module _ (row : Row) (field : List ℕ) (ok : Formed row field) where

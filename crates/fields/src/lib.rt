@@ -226,7 +226,7 @@ fn expiry_refusal(field: &[u8]) -> usize
 
 // ---- the lot, the amount, the seal
 
-// The bytes of the lot.
+// How many bytes the lot has, as the field says.
 pub fn lot_length(field: &[u8]) -> usize
     ensures { λ r. ⌜ r ≡ lengthOf (now (field .entry)) ⌝ }
 {

@@ -12,11 +12,12 @@ use lib.Dec.{eqb}
 use borrow.Author.Tests.{eqb-true, eqb-false, ne-eqb}
 use Rattle.bits.specs.Choice.{pick, firstOf}
 use Rattle.bits.proofs.Lists.{drop-replicate}
+use Rattle.bits.proofs.Strings.{neither}
 use Rattle.bits.proofs.Faults.{Clear, passed, done, Every, all, with, Numbered, first-clear}
 use Rattle.fields.specs.Format.{amountRow}
 use Rattle.fields.specs.Field.{anyOutside, fieldOf}
 use Rattle.fields.specs.Date.{dateWrong}
-use Rattle.fields.proofs.Formed.{Within, within, inside, neither}
+use Rattle.fields.proofs.Formed.{Within, within, inside}
 use Rattle.writing.specs.declared.Covered.{Covered}
 use Rattle.writing.specs.Writing.{Says, valueWrong, saysFaults, expiryValue, amountValue, coveredOf, filledTo, layOut}
 
