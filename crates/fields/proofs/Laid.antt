@@ -13,8 +13,8 @@ use Rattle.bits.proofs.Faults.{clear-one, Every, all, with, Numbered, first-cle
 use Rattle.fields.specs.Format.{expiryRow, lotRow, amountRow, sealRow}
 use Rattle.fields.specs.Field.{lengthOf, endOf, fieldFaults}
 use Rattle.fields.specs.Date.{yearOf, monthOf, dayOf, dateWrong}
-use Rattle.fields.specs.Layout.{lotAt, amountAt, sealAt, lotField, amountField, sealField, covered, amountOf, expiryFaults, lotFaults, amountFaults, sealFaults, layoutFaults}
-use Rattle.fields.proofs.Formed.{Within, within, Formed, formed, field-every, end-whole}
+use Rattle.fields.specs.Layout.{lotAt, amountAt, sealAt, lotField, amountField, sealField, covered, amountOf, amountWrong, expiryFaults, lotFaults, amountFaults, sealFaults, layoutFaults}
+use Rattle.fields.proofs.Formed.{Formed, formed, field-every, end-whole}
 use Rattle.fields.proofs.Inside.{seal-there}
 
 -- ---- the numbers of the refusals: what holds of 20 to 24 holds of them all
@@ -59,7 +59,7 @@ pub record LaidOut (s : List ℕ) : Type 0 where
   pub date : dateWrong (yearOf s) (monthOf s) (dayOf s) ≡ false
   pub lot : Formed lotRow (lotField s)
   pub amount : Formed amountRow (amountField s)
-  pub microlitres : Within 1 1000000 (amountOf (amountField s))
+  pub microlitres : amountWrong (amountOf (amountField s)) ≡ false
   pub seal : Formed sealRow (sealField s)
   pub ended : length (sealField s) ≤ endOf (sealField s)
 
@@ -78,7 +78,7 @@ laid-out s e =
       date = clear-one (expiry .1);
       lot = formed lotRow (lotField s) (in-lot .0);
       amount = formed amountRow (amountField s) (amount .0);
-      microlitres = within 1 1000000 (amountOf (amountField s)) (clear-one (amount .1));
+      microlitres = clear-one (amount .1);
       seal = formed sealRow (sealField s) (seal .0);
       ended = ltb-false (endOf (sealField s)) (length (sealField s)) (clear-one (seal .1));
     }
