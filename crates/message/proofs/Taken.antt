@@ -2,7 +2,8 @@
 -- Assumes nothing.
 use mathlib.Core.Path.{_≡_, refl}
 use mathlib.Core.Bool.{Bool, false}
-use Prim.Native.Nat.{ℕ, _≤_}
+use Prim.Native.Nat.{ℕ, _*_, _≤_}
+use native.Mathlib.Omega.{arith}
 use borrow.Author.Tests.{ltb-false, eqb-true, not-false}
 use Rattle.bits.specs.Choice.{firstOf}
 use Rattle.bits.proofs.Faults.{Clear, passed, done, Every, all, with, Numbered, first-clear}
@@ -17,6 +18,7 @@ use Rattle.message.specs.Faults.{lengthWrong, tooManyBits, tooFewBlocks,
 
 pub record Taken (S : Settings) (c l : ℕ) (ten : Bool) : Type 0 where
   pub long : c ≡ bytesFor l
+  pub holds : l ≤ 8 * c
   pub few : l ≤ 8388608
   pub enough : row (algorithmAt (S .algorithm)) .least ≤ blockCount (methodAt (S .padding)) (cipherAt 1 .n) l
   pub room : ten ≡ false
@@ -34,9 +36,10 @@ unfolding tooFewBlocks
 enough-held S l h = ltb-false _ _ h
 
 pub clear-taken : (S : Settings) (c l : ℕ) (ten : Bool) → Clear (messageFaults S c l ten) → Taken S c l ten
-unfolding messageFaults lengthWrong tooManyBits
+unfolding messageFaults lengthWrong tooManyBits bytesFor
 clear-taken S c l ten (passed e7 (passed e8 (passed e9 (passed e10 done)))) =
-    record { long = eqb-true c (bytesFor l) (not-false _ e7); few = ltb-false 8388608 l e8; enough = enough-held S l e9; room = e10 }
+    let long = eqb-true c (bytesFor l) (not-false _ e7) in
+    record { long = long; holds = omega arith; few = ltb-false 8388608 l e8; enough = enough-held S l e9; room = e10 }
 
 pub taken : (S : Settings) (c l : ℕ) (ten : Bool) → firstOf (messageFaults S c l ten) ≡ 0 → Taken S c l ten
 taken S c l ten e = clear-taken S c l ten (first-clear (messageFaults S c l ten) (message-numbered S c l ten) e)
