@@ -33,7 +33,7 @@ roomShort m room = ltb room (bytesFor m)
 unfoldable pub tagLengthWrong : ℕ → ℕ → Bool
 tagLengthWrong m c = not (eqb c (bytesFor m))
 
--- in this order: c bytes of message, l bits; ten is the tenth fault
+-- in this order: c bytes of message, l bits; ten is fault 10
 unfoldable pub messageFaults : Settings → ℕ → ℕ → Bool → List Fault
 messageFaults S c l ten =
     7 given lengthWrong c l ∷

@@ -57,7 +57,7 @@ pub fn tag_length_wrong(m: usize, length: usize) -> bool
     length != bytes_for(m)
 }
 
-// The first refusal of 7 to 10, and 0 where there is none; the tenth test is the caller's.
+// The first refusal of 7 to 10, and 0 where there is none; the test for 10 is the caller's.
 pub fn refusal(s: settings::Settings, length: usize, bits: usize, ten: bool) -> usize
     ensures { λ r. ⌜ r ≡ firstOf (messageFaults s length bits ten) ⌝ }
 {
