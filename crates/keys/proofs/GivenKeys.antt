@@ -70,7 +70,7 @@ never-same master a s =
     second-third-differ (cipherAt 1) (lawful-at 1) (omega (arith, width-at 1)) master (algorithmAt a) (bytesBits (front s)) (bytesBits second)
     (omega (arith, length-bytesBits second, length-front (drop 16 s)))
 
--- algorithms 2 and 6
+-- where the master is given alone
 module _ (a : ℕ) (alone : row (algorithmAt a) .third ≡ false) where
   pub alone-makes : (s : List ℕ) → unpackOf true a s ≡ (derived (cipherAt 1) (bytesBits (front s)) giving λ d. keys (d .0) (d .1))
   unfolding unpackOf keysUsed pick
