@@ -21,11 +21,8 @@ use Rattle.mac.proofs.TagBytes.{tagBytes-inj, tagBytes-bytesBits}
 use Rattle.mac.proofs.Absorbing.{session}
 
 -- exactly one string of n bits is taken to the bytes t
-pub record ExactlyBytes (n : ℕ) (f : Bits → List ℕ) (t : List ℕ) : Type 0 where
-  pub filling : Bits
-  pub long : length filling ≡ n
-  pub fits : f filling ≡ t
-  pub only : (b : Bits) → length b ≡ n → f b ≡ t → b ≡ filling
+abbrev pub ExactlyBytes : ℕ → (Bits → List ℕ) → List ℕ → Type 0
+ExactlyBytes n f t = Exactly n f t
 
 module _ (C : Cipher) (A : Algorithm) (M : Method) (K : Keys) where
   abbrev n : ℕ
