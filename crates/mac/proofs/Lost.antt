@@ -15,7 +15,7 @@ use Prim.Native.Nat.{ℕ, zero, suc, _+_, _-_, _*_, _/_, _≤_, _<_}
 use native.Mathlib.Nat.{suc-mul, add-mul, mul-div-cancel, mul-le-mul-right}
 use native.Mathlib.Omega.{arith}
 use lib.ListN.{length, take, drop, length-append, length-drop}
-use lib.Seq.{drop-drop, drop-at, length-take-le}
+use lib.Seq.{drop-drop, length-take-le}
 use Rattle.bits.specs.Choice.{pick}
 use Rattle.bits.specs.Str.{Bits, xorB}
 use Rattle.bits.proofs.Strings.{length-xorB, xorB-twice, xorB-comm}
@@ -26,9 +26,9 @@ use Rattle.mac.specs.Algorithm.{Algorithm, alg1, alg2, alg3, alg4, alg5,
 use Rattle.mac.specs.Tag.{some, H, G}
 use Rattle.mac.specs.Lost.{Backs, stepBack, backUnderK, backs, wanted, lostBlock}
 use Rattle.mac.proofs.Perm.{Perm, perm-then, perm-xor, perm-rotl, perm-rotr, perm-back}
-use Rattle.mac.proofs.Padded.{count, ahead, length-prefix, padded-length}
+use Rattle.mac.proofs.Padded.{last-block, count, ahead, length-prefix, padded-length}
 use Rattle.mac.proofs.Steps.{Sound, sound, step-perm, perm-e, perm-d, pick-perm, pick-long, zeros-long, double-long}
-use Rattle.mac.proofs.Chain.{length-D, D-here, H-long, H-before}
+use Rattle.mac.proofs.Chain.{length-D, D-here, past-here, all-long, H-long, H-before}
 use Rattle.mac.proofs.OneBlock.{Apart, Exactly, refilled, full, rest, full-value, one-filling}
 
 -- ---- each way back undoes its step
@@ -129,24 +129,16 @@ module _ (n : ℕ) (pos : 0 < n) (A : Algorithm) (r : Run Steps) (ok : Sound n A
     wanted-is zero i e = ap (λ (m : ℕ). B .last w (S .last w (input m) .out)) at-last ∙ un .last w (input i) (input-wide i (omega arith))
       where
         at-last : length P / n - 1 ≡ i
-        at-last = let blocks = ap (λ (m : ℕ). m / n) long ∙ mul-div-cancel (suc q) pos in omega arith
+        at-last = omega (arith, last-block n q (length P) pos long)
     wanted-is (suc k) i e = onward k i (omega arith) (wanted-is k (suc i) (omega arith))
 
   -- the block b between i blocks and k blocks
   wanted-here : (i k : ℕ) (a b c : Bits) → length a ≡ i * n → length b ≡ n → length c ≡ k * n
       → wanted n B w (G n S (a ++ (b ++ c)) w .out) k (some i) c ≡ xorB b (H n S a i .out)
   wanted-here i k a b c ha hb hc =
-      ap (wanted n B w (G n S (a ++ (b ++ c)) w .out) k (some i)) (sym past)
-      ∙ wanted-is (a ++ (b ++ c)) (i + k) all k i refl
+      ap (wanted n B w (G n S (a ++ (b ++ c)) w .out) k (some i)) (sym (past-here n i a b c ha hb))
+      ∙ wanted-is (a ++ (b ++ c)) (i + k) (all-long n i k a b c ha hb hc) k i refl
       ∙ ap₂ xorB (D-here n i a b c ha hb) (H-before n pos A r ok i a c ha b)
-    where
-      past : drop (suc i * n) (a ++ (b ++ c)) ≡ c
-      past =
-          ap (λ (m : ℕ). drop m (a ++ (b ++ c))) (suc-mul i n)
-          ∙ sym (drop-drop n (i * n) (a ++ (b ++ c))) ∙ ap (drop n) (drop-at a (b ++ c) (i * n) ha) ∙ drop-at b c n hb
-
-      all : length (a ++ (b ++ c)) ≡ suc (i + k) * n
-      all = omega (arith, length-append a (b ++ c), length-append b c, suc-mul (i + k) n, add-mul i k n)
 
 -- ---- the lost block
 
