@@ -2,7 +2,6 @@
 -- Assumes nothing.
 use mathlib.Core.Path.{_≡_, sym, ap}
 use Prim.Native.Nat.{ℕ}
-use Rattle.mac.specs.declared.Row.{Row}
 use Rattle.mac.specs.Algorithm.{algorithmAt, row}
 use Rattle.mac.proofs.Numbers.{other-number}
 use Rattle.mac.proofs.row_of.Statement.{statement}
