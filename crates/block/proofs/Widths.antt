@@ -7,7 +7,7 @@ use mathlib.Core.List.{List, [], _∷_, _++_, flatMap, append-assoc}
 use Prim.Native.Nat.{ℕ, zero, suc, _+_, _-_, _/_, _%_, _≤_, _<_, _^_}
 use native.Mathlib.Nat.{div-eq-of-lt}
 use native.Mathlib.Omega.{arith}
-use lib.ListN.{length, take, drop, getD, replicate, length-take, length-drop, length-append}
+use lib.ListN.{length, take, drop, getD, replicate, length-drop, length-append}
 use lib.Seq.{length-take-le, take-all, take-take, take-append-add, drop-append-le, drop-append-add, getD-take}
 use Rattle.bits.specs.Str.{Bits, digit, bitsN, bytesBits, zeros, xorB, leftmost, rightmost, rotl, rotr, filled, shiftl, double}
 use Rattle.bits.proofs.Choice.{hit, miss}
@@ -44,12 +44,6 @@ again (suc k) [] = refl
 again (suc k) (b ∷ w) = refl
 
 -- ---- truncation
-
-pub least-first : (B : Bits) (n m : ℕ) → n < m → take n B ≡ take m (take n B)
-least-first B n m h = sym (take-all m (take n B) (omega (arith, length-take n B)))
-
-pub least-second : (B : Bits) (n m : ℕ) → m ≤ n → take m B ≡ take m (take n B)
-least-second B n m h = sym (take-take m n B h)
 
 module _ (B : Bits) (n : ℕ) (hB : length B ≡ 128) (hn : n ≤ 128) where
   long : length (take n B) ≡ n
@@ -116,7 +110,7 @@ module _ (B : Bits) (n : ℕ) (hB : length B ≡ 128) (hn : n ≤ 128) where
 
     -- ---- doubling
 
-    pub shifted : (u w : Bits) → u ≡ filled 128 (leftmost n B) → w ≡ drop 1 u ++ take 1 (bytesBits blank) → w ≡ filled 128 (shiftl (take n B))
+    shifted : (u w : Bits) → u ≡ filled 128 (leftmost n B) → w ≡ drop 1 u ++ take 1 (bytesBits blank) → w ≡ filled 128 (shiftl (take n B))
     unfolding leftmost shiftl
     shifted u w eu ew = window-filled 1 u w pos eu ew ∙ sym (filled-zeros (drop 1 (take n B)) 1 (omega (arith, length-drop 1 (take n B), long)))
 

@@ -11,9 +11,9 @@ use Rattle.bits.proofs.Strings.{length-zeros, take-zeros, drop-zeros}
 use Rattle.bits.proofs.Packed.{length-bytesBits, bytesBits-append}
 
 -- 128 bits from the sth on of two blocks
-pub window-is : (a b r : List ℕ) (s : ℕ) → length a ≡ 16 → length b ≡ 16 → s ≤ 128 → bytesBits r ≡ take 128 (drop s (bytesBits (a ++ b)))
+pub window-is : (a b r : List ℕ) (s : ℕ) → length a ≡ 16 → s ≤ 128 → bytesBits r ≡ take 128 (drop s (bytesBits (a ++ b)))
     → bytesBits r ≡ drop s (bytesBits a) ++ take s (bytesBits b)
-window-is a b r s la lb h e =
+window-is a b r s la h e =
     e ∙ ap (take 128) (ap (drop s) (bytesBits-append a b) ∙ drop-append-le s (bytesBits a) (bytesBits b) (omega (arith, length-bytesBits a)))
     ∙ ap (λ (n : ℕ). take n (drop s (bytesBits a) ++ bytesBits b)) whole ∙ take-append-add (drop s (bytesBits a)) (bytesBits b) s
   where
