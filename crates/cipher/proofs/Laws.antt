@@ -1,5 +1,6 @@
--- What holds of a cipher by its number: it is lawful, its width is so many whole bytes that sixteen hold, and enciphering under a
--- key's round keys is enciphering under the key. Above this crate nothing else is known of a cipher.
+-- What holds of a cipher by its number: it is lawful, its width is so many whole bytes that sixteen hold, enciphering under a key's
+-- round keys is enciphering under the key, and under them backwards it is deciphering; and number 1 has blocks and keys of 128 bits.
+-- Nothing else is known of a cipher above this crate but where an example is computed.
 -- Assumes nothing.
 use mathlib.Core.Path.{_≡_, refl, sym, ap, _∙_}
 use mathlib.Core.List.{List, [], _∷_, _++_, append-nil, flatMap}
@@ -78,11 +79,11 @@ module _ (c : ℕ) where
     unfolding encAt decAt backwardsAt dec
     enc-backwards = refl
 
-    pub length-encAt : (w : Bits) → length w ≡ n → length (encAt c rks w) ≡ n
+    length-encAt : (w : Bits) → length w ≡ n → length (encAt c rks w) ≡ n
     unfolding cipherAt encAt
     length-encAt = length-enc rks
 
-    pub length-decAt : (w : Bits) → length w ≡ n → length (decAt c rks w) ≡ n
+    length-decAt : (w : Bits) → length w ≡ n → length (decAt c rks w) ≡ n
     unfolding cipherAt decAt
     length-decAt = length-dec rks
 

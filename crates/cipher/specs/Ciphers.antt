@@ -1,5 +1,5 @@
 -- The ciphers by number, and how code works with one: the round keys of a key once, then blocks under round keys, with tables lent.
--- Whatever the cipher, round keys are 32 words, and tables of one length.
+-- Whatever the cipher, round keys are 32 words, and each table has one length.
 -- Assumes nothing.
 use mathlib.Core.List.{List, flatMap, reverse}
 use Prim.Native.Nat.{ℕ}

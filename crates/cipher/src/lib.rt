@@ -1,7 +1,7 @@
 // The one room that knows the ciphers apart, each by its number. A block is sixteen bytes by value, or four words between the
 // blocks of a long message: of a cipher of n bits the first n bits count, and zeros stand after them in every answer. What differs
-// between ciphers ends here: round keys are 32 words, and one table of one type is lent to every call, so that no caller carries
-// more for another cipher.
+// between ciphers ends here: round keys are 32 words, and the tables that are lent have one type each, `Table` and `Wide`, so that no
+// caller carries more for another cipher.
 ghost use mathlib.Core.Path.{_≡_};
 ghost use Prim.Native.Nat.{_*_};
 ghost use lib.ListN.{length, take};
