@@ -10,10 +10,10 @@ use native.Mathlib.Omega.{arith}
 use lib.ListN.{length, take, drop}
 use lib.Seq.{take-all}
 use Rattle.bits.specs.Choice.{pick}
-use Rattle.bits.specs.Str.{Bits, bitsN, bytesBits, filled}
+use Rattle.bits.specs.Str.{Bits, bitsN, bytesBits}
 use Rattle.bits.proofs.Packed.{length-bytesBits}
 use Rattle.bits.proofs.Numbers.{length-bitsN}
-use Rattle.block.specs.Block.{front}
+use Rattle.block.specs.Block.{front, filledBlock}
 use Rattle.cipher.specs.Cipher.{Cipher}
 use Rattle.cipher.specs.Ciphers.{cipherAt, roundKeysAt, encAt}
 use Rattle.cipher.proofs.Widths.{take-filled}
@@ -35,8 +35,8 @@ whole b k e h = take-all k (bytesBits b) (omega (arith, length-bytesBits b))
 pub derived-key : (master : List ℕ) (rks : List Bits) (i : ℕ) (counter made : List ℕ)
     → length master ≡ 16 → length counter ≡ 16 → length made ≡ 16
     → rks ≡ roundKeysAt 1 (take (cipherAt 1 .keyWidth) (bytesBits master))
-    → bytesBits counter ≡ filled 128 (bitsN n i)
-    → bytesBits made ≡ filled 128 (encAt 1 rks (take n (bytesBits counter)))
+    → bytesBits counter ≡ filledBlock (bitsN n i)
+    → bytesBits made ≡ filledBlock (encAt 1 rks (take n (bytesBits counter)))
     → bytesBits made ≡ cipherAt 1 .encrypt (bytesBits master) (bitsN n i)
 derived-key master rks i counter made lm lc ld scheduled number e =
     sym (whole made n sm4-width ld)
