@@ -20,15 +20,15 @@ use Rattle.fields.proofs.Inside.{seal-there}
 -- ---- the numbers of the refusals: what holds of 20 to 24 holds of them all
 
 module _ {P : ℕ → Type 0} (p20 : P 20) (p21 : P 21) (p22 : P 22) where
-  pub expiry-every : P 23 → (field : List ℕ) → Every P (expiryFaults field)
+  expiry-every : P 23 → (field : List ℕ) → Every P (expiryFaults field)
   unfolding expiryFaults
   expiry-every p23 field = every-append (field-every p20 p21 p22 expiryRow field) (with p23 all)
 
-  pub lot-every : (field : List ℕ) → Every P (lotFaults field)
+  lot-every : (field : List ℕ) → Every P (lotFaults field)
   unfolding lotFaults
   lot-every field = field-every p20 p21 p22 lotRow field
 
-  pub amount-every : (field : List ℕ) → Every P (amountFaults field)
+  amount-every : (field : List ℕ) → Every P (amountFaults field)
   unfolding amountFaults
   amount-every field = every-append (field-every p20 p21 p22 amountRow field) (with p22 all)
 
