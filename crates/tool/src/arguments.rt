@@ -7,7 +7,7 @@ use crate::words;
 use words::print;
 
 // A program's words begin no later than here, so that the numbers of its arguments can be added to.
-pub(crate) const LAST: usize = 65536;
+const LAST: usize = 65536;
 
 // So many words may come after M.
 const FURTHER: usize = 1;
@@ -20,8 +20,8 @@ pub(crate) enum Agreed {
 
 // What the first of a program's words ask for.
 pub(crate) enum Asked {
-    // There is one word alone.
-    One,
+    // There is one word alone, which asks how the program is used.
+    Help,
     // There are more or fewer than the program takes.
     Misuse,
     // The first is the name of a file, of which so many bytes are in the room; and so many words come after M.
@@ -32,8 +32,8 @@ pub(crate) enum Asked {
 
 // What is asked for where the words are so many arguments from this one on, and the program takes so many up to M.
 pub(crate) fn words_ask(at: usize, count: usize, taken: usize, name: &mut [u8]) -> Asked {
-    if count == 1 {
-        return Asked::One;
+    if count == 1 && is_help(at) {
+        return Asked::Help;
     }
     if count < taken {
         return Asked::Misuse;
@@ -81,18 +81,19 @@ pub(crate) fn word(at: usize, room: &mut [u8]) -> usize {
     n
 }
 
-pub(crate) fn asks_for_help(word: &[u8]) -> bool {
-    if check::same(word, b"-h") {
-        return true;
-    }
-    check::same(word, b"--help")
+// Whether an argument is this word of seven bytes at most.
+pub(crate) fn word_is(at: usize, expected: &[u8]) -> bool {
+    let mut room = [0u8; 8];
+    let n = word(at, &mut room);
+    check::same(first(&room, n), expected)
 }
 
 // Whether an argument asks how the program is used.
-pub(crate) fn is_help(at: usize) -> bool {
-    let mut room = [0u8; 7];
-    let n = word(at, &mut room);
-    asks_for_help(first(&room, n))
+fn is_help(at: usize) -> bool {
+    if word_is(at, b"-h") {
+        return true;
+    }
+    word_is(at, b"--help")
 }
 
 // The agreement of the three arguments from this one on, and of so many further ones.
@@ -150,9 +151,7 @@ pub(crate) fn is_no_number(what: &[u8], word: &[u8]) -> bool {
 
 // Whether an argument is not the word master; if so, it is said.
 fn is_no_master(at: usize) -> bool {
-    let mut room = [0u8; 7];
-    let n = word(at, &mut room);
-    if check::same(first(&room, n), b"master") {
+    if word_is(at, b"master") {
         return false;
     }
     print(b"error: the word after M is not master\n");

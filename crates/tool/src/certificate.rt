@@ -1,14 +1,14 @@
-// The program certcheck, which checks a certificate of analysis, however long, under its tag: it reads the keys from standard input and
-// the certificate from a file, once and in pieces.
+// The program certcheck, which checks a certificate of analysis of up to 1,048,576 bytes under its tag: it reads the keys from standard
+// input and the certificate from a file, once and in pieces.
 //
 //     certcheck FILE TAG ALGORITHM PADDING M           accepted; or rejected, where the tag is another; each with the bits and the
 //                                                      cipher calls; or refused, or error, as slipcheck
 //     certcheck FILE TAG ALGORITHM PADDING M master    the same, where a master key was agreed
 //     certcheck -h                                     how it is used; also --help
 //
-// The arguments are looked at first, in their order, then the keys, then the library's answer to the start of the check, then the file
-// (certificate_file.rt). The program's own buffers, with those of the calls it makes on the system, stay below 64 KiB even if they were
-// all in use together:
+// The arguments are looked at first, in their order, then the keys, then the library's answer to the start of the check, then the file;
+// under padding 3 the file is opened, and its size asked for, before that answer (certificate_file.rt). The program's own buffers, with
+// those of the calls it makes on the system, stay below 64 KiB even if they were all in use together:
 //
 //    32768   a read of the file
 //     4096   the file's name
@@ -20,11 +20,10 @@
 //       33   the key bytes
 //       20   a number's digits
 //       17   the tag
-//        7   a word alone
-//        7   the word master
+//        8   a word alone, or the word master
 //        1   for a read of no bytes
 //    -----
-//    45626   bytes in all
+//    45620   bytes in all
 ghost use Prim.Native.Nat.{_≤_};
 use crate::arguments;
 use crate::certificate_file;
@@ -43,7 +42,7 @@ pub fn run_certificate() {
 pub fn answer_certificate(typed: i32, at: usize, count: usize) {
     let mut name = io::buffer();
     match arguments::words_ask(at, count, 5, &mut name) {
-        Asked::One => answer_one(at),
+        Asked::Help => print_usage(),
         Asked::Misuse => print_misuse(),
         Asked::Unnamed(reason) => words::print_failure(b"the file cannot be opened", reason),
         Asked::Named(n, further) => {
@@ -72,15 +71,6 @@ fn print_usage() {
 fn print_misuse() {
     print(b"error: give five arguments\n");
     print_usage();
-}
-
-// A word alone may ask how the program is used.
-fn answer_one(at: usize) {
-    if arguments::is_help(at) {
-        print_usage();
-        return;
-    }
-    print_misuse();
 }
 
 // The words after the file's name, of which so many come after M. Of the tag 34 digits are enough: a tag has 16 bytes at most, and for

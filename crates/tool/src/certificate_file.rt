@@ -57,7 +57,7 @@ fn check_sized(name: &[u8], agreement: settings::Agreement, keys: &[u8], tag: &[
 }
 
 // The file, open for reading; where that cannot be, it is said.
-fn opened(name: &[u8]) -> i32 {
+pub(crate) fn opened(name: &[u8]) -> i32 {
     let file = os::open_read(name);
     if file < 0 {
         words::print_failure(b"the file cannot be opened", os::errno());

@@ -1,4 +1,4 @@
-// Bytes as hex digits, both ways: the keys are typed so, and tags are printed so.
+// Bytes as hex digits, both ways: keys and a certificate's tag are typed so, the tags of the vectors are printed so.
 
 // The value of a hex digit of either case, or 16.
 pub(crate) fn digit(c: u8) -> u8 {

@@ -22,10 +22,11 @@
 //      160   the slip gathered, and the copy that its lot is printed from
 //       33   the key bytes
 //       20   a number's digits
-//        8   a word alone
-//        7   the word master
+//        8   a word alone, or the word master
 //    -----
-//    14119   bytes in all
+//    14112   bytes in all
+ghost use Prim.Native.Nat.{_≤_};
+
 mod arguments;
 mod certificate;
 mod certificate_file;
@@ -52,9 +53,13 @@ pub fn run() {
 
 // What slipcheck says where its words are so many arguments from this one on, and the keys are typed into this open file.
 pub fn answer(typed: i32, at: usize, count: usize) {
+    if count == 1 && arguments::word_is(at, b"vectors") {
+        vectors::run();
+        return;
+    }
     let mut name = io::buffer();
     match arguments::words_ask(at, count, 4, &mut name) {
-        Asked::One => answer_one(at),
+        Asked::Help => print_usage(),
         Asked::Misuse => print_misuse(),
         Asked::Unnamed(reason) => words::print_failure(b"the file cannot be opened", reason),
         Asked::Named(n, further) => {
@@ -82,28 +87,10 @@ fn print_misuse() {
     print_usage();
 }
 
-// A word alone runs the vectors, or may ask how the program is used.
-fn answer_one(at: usize) {
-    let mut room = [0u8; 8];
-    let n = arguments::word(at, &mut room);
-    let word = first(&room, n);
-    if check::same(word, b"vectors") {
-        vectors::run();
-        return;
-    }
-    if arguments::asks_for_help(word) {
-        print_usage();
-        return;
-    }
-    print_misuse();
-}
-
 // What slipcheck says of the file of this name, where what was agreed is the three arguments from this one on and so many further ones.
-pub fn answer_named(typed: i32, name: &[u8], at: usize, further: usize) {
-    if arguments::LAST + 1 < at {
-        print_misuse();
-        return;
-    }
+pub fn answer_named(typed: i32, name: &[u8], at: usize, further: usize)
+    requires { ⌜ at ≤ 65537 ⌝ }
+{
     match arguments::agreement(at, further) {
         Agreed::Words(agreement) => check_file(typed, agreement, name),
         Agreed::Unread => print_usage(),
@@ -127,7 +114,7 @@ pub(crate) fn first(s: &[u8], count: usize) -> &[u8] {
     s
 }
 
-// So many bytes from a place, or none where they are not there.
+// So many bytes from a place, or as many as are there.
 pub(crate) fn part(s: &[u8], at: usize, count: usize) -> &[u8] {
     if s.len() < at {
         return &s[0..0];

@@ -20,10 +20,9 @@
 //       33   the lot
 //       20   a number's digits
 //       11   the date
-//        7   a word alone
-//        7   the word master
+//        8   a word alone, or the word master
 //    -----
-//    12990   bytes in all
+//    12984   bytes in all
 ghost use Prim.Native.Nat.{_≤_};
 use crate::arguments;
 use crate::first;
@@ -43,7 +42,7 @@ pub fn run_print() {
 pub fn answer_print(typed: i32, at: usize, count: usize) {
     let mut name = io::buffer();
     match arguments::words_ask(at, count, 7, &mut name) {
-        Asked::One => answer_one(at),
+        Asked::Help => print_usage(),
         Asked::Misuse => print_misuse(),
         Asked::Unnamed(reason) => words::print_failure(b"the file cannot be made", reason),
         Asked::Named(n, further) => {
@@ -65,15 +64,6 @@ fn print_usage() {
 fn print_misuse() {
     print(b"error: give seven arguments\n");
     print_usage();
-}
-
-// A word alone may ask how the program is used.
-fn answer_one(at: usize) {
-    if arguments::is_help(at) {
-        print_usage();
-        return;
-    }
-    print_misuse();
 }
 
 // The words after the file's name, of which so many come after M.

@@ -1,7 +1,9 @@
 // The one slip in a file, gathered to the end of input in whatever lengths the system delivers, then read once. The file may be a pipe.
 // A slip has 75 bytes at most and the record keeps 76, so of a longer file nothing further is kept, and it gets the answer of the
 // whole. A file that cannot be read is an error and never a refusal: nothing is known of its bottle.
+use crate::certificate_file;
 use crate::words;
+use certificate_file::opened;
 use words::print;
 
 // So many reads at most, that a device without an end is answered too. Each but the last brings a byte, so the 76 are there long before.
@@ -24,9 +26,8 @@ struct Turn {
 }
 
 pub(crate) fn check(name: &[u8], agreement: settings::Agreement, keys: &[u8]) {
-    let file = os::open_read(name);
+    let file = opened(name);
     if file < 0 {
-        words::print_failure(b"the file cannot be opened", os::errno());
         return;
     }
     let last = gather(file);

@@ -1,4 +1,4 @@
--- `keys::after_all` is safe and ends. The loop's invariant: the room keeps its length, and i is at most the text's.
+-- `typed_keys::after_all` is safe and ends. The loop's invariant: the room keeps its length, and i is at most the text's.
 -- Assumes nothing.
 use mathlib.Core.Path.{_≡_}
 use Prim.Native.Nat.{_-_, _≤_}

@@ -1,4 +1,4 @@
--- `keys::read` is safe and ends. The loop's invariant: the room keeps its length; the measure is the number of reads that are left.
+-- `typed_keys::read` is safe and ends. The loop's invariant: the room keeps its length; the measure is the number of reads that are left.
 -- Assumes nothing.
 use mathlib.Core.Path.{_≡_}
 use borrow.Author.Needs.{needs}
