@@ -25,7 +25,7 @@ const JUNK: [u8; 80] = *b"\
     \xcc\xcc\xcc\xcc\xcc\xcc\xcc\xcc\xcc\xcc\xcc\xcc\xcc\
     \xdd\xdd\xdd\xdd";
 
-// The message of A.1, with one of its two blocks lost too, and the G of it under padding 1.
+// The message of A.1, with one of its two blocks lost too, and the G of it under algorithm 1 and padding 1.
 const MESSAGE: [u8; 32] = *b"This is the test message for mac";
 
 const FIRST_LOST: [u8; 32] = *b"???????????????? message for mac";
@@ -259,12 +259,7 @@ fn check_in_session(key: &[u8]) {
 
 // The slip is sealed under algorithm 5, padding 4 and 64 bits.
 fn read(m: usize, key: &[u8], slip: &[u8]) {
-    let agreed = slipseal::Agreement {
-        algorithm: 5,
-        padding: 4,
-        m,
-        master: 0,
-    };
+    let agreed = agreement(5, 4, m, 0);
     tell_slip(b"read:", slipseal::slipseal_read(agreed, key, slip));
 }
 
@@ -289,10 +284,7 @@ fn read_gathered(what: &[u8], key: &[u8], g: slip::Gathered) {
 // The slip in reads of 20 and of 17 bytes, then one byte more.
 fn gather(key: &[u8]) {
     let slip = SLIP;
-    let none = slip::Gathered {
-        count: 0,
-        bytes: [0u8; 80],
-    };
+    let none = slip::Gathered::none();
     let some = slipseal::slipseal_gather(none, &slip[0..20]);
     let all = slipseal::slipseal_gather(some, &slip[20..]);
     let more = slipseal::slipseal_gather(all, b"7");
@@ -434,10 +426,7 @@ fn sealed(algorithm: usize, keys: &[u8]) {
     let mut slip = [0xEEu8; 37];
     write_into(agreed, keys, &mut slip);
     tell_slip(b"read:", slipseal::slipseal_read(agreed, keys, &slip));
-    let none = slip::Gathered {
-        count: 0,
-        bytes: [0u8; 80],
-    };
+    let none = slip::Gathered::none();
     let all = slipseal::slipseal_gather(none, &slip);
     tell_slip(
         b"gathered:",

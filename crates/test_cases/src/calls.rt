@@ -1,4 +1,4 @@
-// Commands in one call, and what the library answers, printed.
+// Commands with a message: in one call, or in sessions (halves.rt, bytewise.rt); and what the library answers, printed.
 use crate::bytewise;
 use crate::halves;
 use crate::words;

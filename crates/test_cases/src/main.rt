@@ -53,44 +53,44 @@ use words::print;
 
 // The commands, in the order of their numbers; 0 is a remark.
 const NAMES: [u8; 157] =
-    *b"# make check halves slip changed prefixes firsts trickled record write start piece zeros finish forge same start_check \
-finish_check aim bytewise restore over";
+    *b"# make check halves bytewise restore over slip changed prefixes firsts trickled record write start piece zeros finish \
+forge same start_check finish_check aim";
 
 pub(crate) const CHECK: usize = 2;
 
 pub(crate) const HALVES: usize = 3;
 
-pub(crate) const SLIP: usize = 4;
+pub(crate) const BYTEWISE: usize = 4;
 
-pub(crate) const CHANGED: usize = 5;
+pub(crate) const RESTORE: usize = 5;
 
-pub(crate) const FIRSTS: usize = 7;
+pub(crate) const SLIP: usize = 7;
 
-pub(crate) const TRICKLED: usize = 8;
+pub(crate) const CHANGED: usize = 8;
 
-pub(crate) const RECORD: usize = 9;
+pub(crate) const FIRSTS: usize = 10;
 
-pub(crate) const WRITE: usize = 10;
+pub(crate) const TRICKLED: usize = 11;
 
-pub(crate) const START: usize = 11;
+pub(crate) const RECORD: usize = 12;
 
-pub(crate) const PIECE: usize = 12;
+pub(crate) const WRITE: usize = 13;
 
-pub(crate) const ZEROS: usize = 13;
+pub(crate) const START: usize = 14;
 
-pub(crate) const FINISH: usize = 14;
+pub(crate) const PIECE: usize = 15;
 
-pub(crate) const SAME: usize = 16;
+pub(crate) const ZEROS: usize = 16;
 
-pub(crate) const START_CHECK: usize = 17;
+pub(crate) const FINISH: usize = 17;
 
-pub(crate) const FINISH_CHECK: usize = 18;
+pub(crate) const SAME: usize = 19;
 
-pub(crate) const AIM: usize = 19;
+pub(crate) const START_CHECK: usize = 20;
 
-pub(crate) const BYTEWISE: usize = 20;
+pub(crate) const FINISH_CHECK: usize = 21;
 
-pub(crate) const RESTORE: usize = 21;
+pub(crate) const AIM: usize = 22;
 
 fn main() {
     let count = os::arg_count();
@@ -141,8 +141,12 @@ fn line(line: &[u8], state: sessions::State) -> sessions::State {
 }
 
 fn answered(kind: usize, line: &[u8], state: sessions::State) -> sessions::State {
-    if kind < SLIP {
+    if kind < RESTORE {
         calls::command(kind, line);
+        return state;
+    }
+    if kind < SLIP {
+        lost::command(kind, line);
         return state;
     }
     if kind < FIRSTS {
@@ -155,14 +159,6 @@ fn answered(kind: usize, line: &[u8], state: sessions::State) -> sessions::State
     }
     if kind < START {
         writes::command(line);
-        return state;
-    }
-    if kind == BYTEWISE {
-        calls::command(kind, line);
-        return state;
-    }
-    if RESTORE <= kind {
-        lost::command(kind, line);
         return state;
     }
     sessions::command(kind, line, state)

@@ -1,5 +1,5 @@
 -- Eight tags of 000's annex A.2 to A.9, computed by the definition; two more stand in crate mac (`deciding`), for what is decided by them.
--- All 36 are run (crate test_cases). Under a master: the keys of A.7 are those that its K* makes, and a tag of algorithm 4 with six calls.
+-- All 36 are run (crate test_cases). Under a master: the keys of A.7 are those that its K* makes, and a tag of algorithm 4.
 -- Assumes nothing.
 use mathlib.Core.Path.{_≡_, refl}
 use mathlib.Core.Bool.{true, xor}

@@ -1,4 +1,4 @@
--- `bytes` meets its contract: the index stays within the slice.
+-- `bytes` is safe and ends: the index stays within the slice.
 -- Assumes nothing.
 use Prim.Native.Nat.{_-_, _≤_}
 use lib.ListN.{length}

@@ -1,4 +1,4 @@
--- `line` meets its contract: the index stays below sixteen.
+-- `line` is safe and ends: the index stays below sixteen.
 -- Assumes nothing.
 use Prim.Native.Nat.{_-_, _≤_}
 use borrow.Author.Needs.{needs}

@@ -1,4 +1,4 @@
--- `often` meets its contract: the table is lent on, and the count falls.
+-- `often` is safe and ends: the table is lent on, and the count falls.
 -- Assumes nothing.
 use borrow.Author.Needs.{needs}
 use Rattle.test_sm4.proofs.often.Statement.{statement}
