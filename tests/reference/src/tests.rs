@@ -38,6 +38,21 @@ fn done(calls: u64) -> Answer {
     Answer { number: 0, yes: 1, calls }
 }
 
+fn no(calls: u64) -> Answer {
+    Answer { number: 0, yes: 0, calls }
+}
+
+fn turned(bytes: &[u8], bit: usize) -> Vec<u8> {
+    let mut other = bytes.to_vec();
+    other[bit / 8] ^= 0x80 >> (bit % 8);
+    other
+}
+
+/// The calls of an algorithm besides one for each block.
+fn extra(algorithm: u64) -> u64 {
+    [0, 1, 2, 2, 1, 0, 0, 1][algorithm as usize - 1]
+}
+
 /// The cipher calls of this thread so far, but for those that derive keys from a master.
 fn real_calls() -> u64 {
     sm4::tests::CALLS.get() - 2 * derive::tests::DERIVED.get()
@@ -221,18 +236,15 @@ fn wanted(v: &Vector) -> Vec<(u64, Vec<u8>)> {
 fn annex_a_tags_in_one_call() {
     for v in annex_a() {
         let (a, p) = (v.algorithm, v.padding);
-        let extra = [0, 1, 2, 2, 1, 0, 0, 1][a as usize - 1];
-        let calls = padding::q(p, v.bits) + extra;
+        let calls = padding::q(p, v.bits) + extra(a);
         let (g, counted) = mac::output(agreed(a, p, 128), &v.keys, v.data, v.bits);
         assert_eq!((g.to_vec(), counted), (v.g.clone(), calls));
         for (m, tag) in wanted(&v) {
             assert_eq!(made(agreed(a, p, m), &v.keys, v.data, v.bits), (done(calls), tag.clone()));
             assert_eq!(check(agreed(a, p, m), &v.keys, v.data, v.bits, &tag), done(calls));
             for bit in 0..8 * tag.len() {
-                let mut turned = tag.clone();
-                turned[bit / 8] ^= 0x80 >> (bit % 8);
-                let no = Answer { number: 0, yes: 0, calls };
-                assert_eq!(check(agreed(a, p, m), &v.keys, v.data, v.bits, &turned), no, "bit {bit}");
+                let answer = check(agreed(a, p, m), &v.keys, v.data, v.bits, &turned(&tag, bit));
+                assert_eq!(answer, no(calls), "bit {bit}");
             }
         }
         if a == 7 {
@@ -324,15 +336,15 @@ fn algorithm_4_needs_two_blocks() {
     assert_eq!((answer, finish(open, &mut [0; 16]).1), (number(0), done(4)));
 }
 
-/// Each row shows the earlier of two neighbouring faults. Excluded by the rules themselves: 4 with 5
-/// (no K' to compare), 8 with 9 (too long has q >= 2), finish 12 with 9 (padding 3 has q >= 2).
+/// Each row shows the earlier of two neighbouring faults. Excluded by the rules themselves: 8 with 9 (too
+/// long has q >= 2), finish 12 with 9 (padding 3 has q >= 2).
 #[test]
 fn order_of_refusals_in_one_call() {
     let (kk, same) = (h(KK), [h(K), h(K)].concat());
     let twisted = [h(K), mac::alternate(&block(K)).to_vec()].concat();
     let long = vec![0; LIMIT as usize / 8 + 2];
     type Row<'a> = (u64, u64, u64, &'a [u8], &'a [u8], u64, usize, u64);
-    let rows: [Row; 20] = [
+    let rows: [Row; 21] = [
         (0, 9, 64, &kk, &[], 0, 8, 1),
         (9, 1, 64, &kk, &[], 0, 8, 1),
         (257, 1, 64, &kk[..16], &[], 0, 8, 1),
@@ -343,6 +355,7 @@ fn order_of_refusals_in_one_call() {
         (7, 4, 64, &kk, &[], 0, 8, 3),
         (1, 1, 64, &kk, &[0], 0, 8, 4),
         (2, 1, 64, &kk[..16], &[0], 0, 8, 4),
+        (2, 1, 64, &[&same[..], &[0]].concat(), &[0], 0, 8, 4),
         (2, 1, 64, &same, &[0], 0, 8, 5),
         (4, 1, 64, &same, &[0], 0, 8, 5),
         (4, 1, 64, &twisted, &[0], 0, 8, 5),

@@ -3,16 +3,6 @@
 use super::*;
 use crate::session::start_check;
 
-pub(super) fn no(calls: u64) -> Answer {
-    Answer { number: 0, yes: 0, calls }
-}
-
-pub(super) fn turned(bytes: &[u8], bit: usize) -> Vec<u8> {
-    let mut other = bytes.to_vec();
-    other[bit / 8] ^= 0x80 >> (bit % 8);
-    other
-}
-
 /// The bytes, and zeros after them.
 fn filled(tag: &[u8]) -> [u8; 16] {
     std::array::from_fn(|i| tag.get(i).copied().unwrap_or(0))

@@ -134,9 +134,8 @@ fn any_tag_fits_one_filling() {
             let calls = says(own).calls;
             assert_eq!(says(own), done(calls));
             for bit in 0..128 {
-                let mut bytes = own;
-                bytes[bit / 8] ^= 0x80 >> (bit % 8);
-                assert_eq!(says(bytes), Answer { number: 0, yes: 0, calls }, "{a} {p} {bits} {block} {bit}");
+                let bytes = turned(&own, bit).try_into().unwrap();
+                assert_eq!(says(bytes), no(calls), "{a} {p} {bits} {block} {bit}");
                 // what stood there has no influence
                 let wet = with_block(&message, block, bytes);
                 assert_eq!(restored(agreement, &keys, &wet, bits, block, &tag), (0, found.clone()));

@@ -1,6 +1,6 @@
 //! Keys derived from a master (02 §6): annex A.7 and appendix R8 under it, what 4 and 5 ask, the calls, sessions, slips, lost blocks.
 
-use super::checks::{in_check, no, turned};
+use super::checks::in_check;
 use super::lost::{restored, with_block};
 use super::*;
 use crate::derive::derived;
@@ -366,9 +366,8 @@ fn drawn_settings_with_a_master() {
             let cut = 8 * random.below(bits / 8 + 1);
             assert_eq!(in_session(s.agreement, s.keys(), message, &[cut, bits - cut]), (answer, tag.clone()));
             assert_eq!(in_check(s.agreement, s.keys(), message, &[cut, bits - cut], &tag), answer);
-            let extra = [0, 1, 2, 2, 1, 0, 0, 1][s.agreement.algorithm as usize - 1];
             let q = padding::q(s.agreement.padding, bits);
-            assert_eq!(answer.calls, for_keys(s.agreement) + q + extra);
+            assert_eq!(answer.calls, for_keys(s.agreement) + q + extra(s.agreement.algorithm));
         }
     }
     for master in [false, true] {
