@@ -61,12 +61,12 @@ pub fn case(r: &mut Random, run: &mut Run, [algorithm, padding]: [u64; 2]) {
     let made = library::make(s.agreement, &s.keys, &bytes[..MOST], LIMIT, &mut tag);
     let room = Room::new(r, size);
     run.make(s.agreement, &s.keys, &bytes[..MOST], LIMIT - 1 - r.below(7), room);
-    let checked = run.check(s.agreement, &s.keys, &bytes[..MOST], LIMIT, &tag);
+    let checked = run.check("check", s.agreement, &s.keys, &bytes[..MOST], LIMIT, &tag);
     run.same(&made, &checked, || "the longest message, made and checked".to_string());
     for size in [MOST - 1, MOST, MOST + 1] {
         let room = Room::new(r, 16);
         run.make(s.agreement, &s.keys, &bytes[..size], LIMIT + 1, room);
-        run.check(s.agreement, &s.keys, &bytes[..size], LIMIT + 1, &tag);
+        run.check("check", s.agreement, &s.keys, &bytes[..size], LIMIT + 1, &tag);
     }
 
     // The first, the last and any block lost; the next after the last, and one bit more.

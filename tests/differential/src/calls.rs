@@ -30,7 +30,7 @@ pub fn case(r: &mut Random, run: &mut Run) {
     let room = Room::new(r, size);
     run.make(s.agreement, &s.keys, &bytes, count, room);
     let tag = offered(r, &s, &bytes, count);
-    run.check(s.agreement, &s.keys, &bytes, count, &tag);
+    run.check("check", s.agreement, &s.keys, &bytes, count, &tag);
     // Of the messages over the limit, which are copied and not read, one in eight.
     if bytes.len() as u64 <= LIMIT / 8 || once_in(r, 8) {
         lost(r, run, s, &bytes, count);
@@ -67,7 +67,7 @@ fn lost(r: &mut Random, run: &mut Run, mut s: Settings, bytes: &[u8], count: u64
     let room = Room::around(r, &wet);
     let (number, left) = run.restore(s.agreement, &s.keys, room, count, block, &tag);
     if number == 0 {
-        let answer = run.check_restored(s.agreement, &s.keys, &left, count, &tag);
+        let answer = run.check("restored", s.agreement, &s.keys, &left, count, &tag);
         run.same(&answer.yes, &1, || "a restored message checked".to_string());
         if right {
             run.same(&&left[..], &bytes, || "a message restored out of its own tag".to_string());

@@ -33,7 +33,7 @@ pub fn slip(r: &mut Random, run: &mut Run, s: &Settings, slip: &[u8]) {
     for read in reads(r, slip) {
         record = run.gather(&record, &mut came, read);
     }
-    run.read_gathered(s.agreement, &s.keys, &record, slip);
+    run.read_gathered("gathered", s.agreement, &s.keys, &record, slip);
 }
 
 /// A record that begins with a slip, has other bytes after it and any count: as it is, and after one more read.
@@ -52,7 +52,7 @@ pub fn forged(r: &mut Random, run: &mut Run, s: &Settings, slip: &[u8]) {
     };
     let record = Gathered { count, bytes };
     let mut came = record.held().to_vec();
-    run.read_forged(s.agreement, &s.keys, &record, &came);
+    run.read_gathered("forged", s.agreement, &s.keys, &record, &came);
     let read = match r.below(4) {
         0 => Vec::new(),
         1 => slip.get(came.len()..).unwrap_or(&[]).to_vec(), // what is missing of the slip
@@ -63,5 +63,5 @@ pub fn forged(r: &mut Random, run: &mut Run, s: &Settings, slip: &[u8]) {
         }
     };
     let record = run.gather(&record, &mut came, &read);
-    run.read_forged(s.agreement, &s.keys, &record, &came);
+    run.read_gathered("forged", s.agreement, &s.keys, &record, &came);
 }

@@ -173,7 +173,7 @@ fn main() {
     let words: Vec<String> = std::env::args().skip(1).collect();
     let number = |i: usize, default: u64| words.get(i).map_or(Some(default), |word| word.parse::<u64>().ok());
     let kind = words.get(1).and_then(|word| place(word));
-    let mut run = Run::new();
+    let mut run = Run::default();
     match (number(0, SEED), kind, number(1, COUNT), number(2, 0)) {
         (Some(seed), Some(kind), _, Some(index)) => {
             case(&mut run, seed, kind, index);

@@ -12,6 +12,7 @@ use std::fmt::Debug;
 /// Bytes before and after a lent room; they stay as they are.
 const GUARD: usize = 8;
 
+#[derive(Default)]
 pub struct Run {
     /// The words that repeat the case at hand.
     pub case: String,
@@ -113,11 +114,6 @@ impl Room {
 }
 
 impl Run {
-    pub fn new() -> Run {
-        let case = String::new();
-        Run { case, answers: BTreeMap::new(), masters: BTreeMap::new(), joined: BTreeMap::new() }
-    }
-
     pub fn fail(&self, what: &str) -> ! {
         println!("DIFFERENT, repeat by `differential {}`: {what}", self.case);
         std::process::exit(1);
@@ -176,29 +172,6 @@ impl Run {
     }
 
     pub fn check(
-        &mut self,
-        agreement: Agreement,
-        keys: &[u8],
-        message: &[u8],
-        bits: u64,
-        tag: &[u8],
-    ) -> Answer {
-        self.checking("check", agreement, keys, message, bits, tag)
-    }
-
-    /// Checks a message of which a block was restored out of this tag.
-    pub fn check_restored(
-        &mut self,
-        agreement: Agreement,
-        keys: &[u8],
-        message: &[u8],
-        bits: u64,
-        tag: &[u8],
-    ) -> Answer {
-        self.checking("restored", agreement, keys, message, bits, tag)
-    }
-
-    fn checking(
         &mut self,
         function: &'static str,
         agreement: Agreement,
@@ -305,21 +278,7 @@ impl Run {
         *self.joined.entry(end).or_default() += 1;
     }
 
-    pub fn read(&mut self, agreement: Agreement, keys: &[u8], slip: &[u8]) -> Slip {
-        self.reading("read", agreement, keys, slip)
-    }
-
-    /// Reads a slip that was written.
-    pub fn read_back(&mut self, agreement: Agreement, keys: &[u8], slip: &[u8]) -> Slip {
-        self.reading("back", agreement, keys, slip)
-    }
-
-    /// Reads a slip under something else than it names.
-    pub fn read_other(&mut self, agreement: Agreement, keys: &[u8], slip: &[u8]) -> Slip {
-        self.reading("other", agreement, keys, slip)
-    }
-
-    fn reading(&mut self, function: &'static str, agreement: Agreement, keys: &[u8], slip: &[u8]) -> Slip {
+    pub fn read(&mut self, function: &'static str, agreement: Agreement, keys: &[u8], slip: &[u8]) -> Slip {
         let got = library::read(agreement, keys, slip);
         let want = slip::read(agreement, keys, slip);
         self.same(&got, &want, || format!("slip {} {} {}", words(agreement), word(keys), word(slip)));
@@ -342,17 +301,8 @@ impl Run {
         want
     }
 
-    /// Reads a record of all these bytes.
-    pub fn read_gathered(&mut self, agreement: Agreement, keys: &[u8], record: &Gathered, came: &[u8]) {
-        self.reading_record("gathered", agreement, keys, record, came);
-    }
-
-    /// Reads a record that was forged, and stands for these bytes.
-    pub fn read_forged(&mut self, agreement: Agreement, keys: &[u8], record: &Gathered, came: &[u8]) {
-        self.reading_record("forged", agreement, keys, record, came);
-    }
-
-    fn reading_record(
+    /// Reads a record that stands for all these bytes.
+    pub fn read_gathered(
         &mut self,
         function: &'static str,
         agreement: Agreement,
@@ -369,27 +319,6 @@ impl Run {
 
     /// The answer, and the bytes of the room.
     pub fn write(
-        &mut self,
-        agreement: Agreement,
-        keys: &[u8],
-        says: &Says,
-        room: Room,
-    ) -> (Written, Vec<u8>) {
-        self.writing("write", agreement, keys, says, room)
-    }
-
-    /// Writes what was read from a slip.
-    pub fn write_again(
-        &mut self,
-        agreement: Agreement,
-        keys: &[u8],
-        says: &Says,
-        room: Room,
-    ) -> (Written, Vec<u8>) {
-        self.writing("again", agreement, keys, says, room)
-    }
-
-    fn writing(
         &mut self,
         function: &'static str,
         agreement: Agreement,
@@ -410,11 +339,5 @@ impl Run {
         self.same(&ours.bytes, &theirs.bytes, || format!("{} (room)", line()));
         self.count(function, agreement.master, want.number.to_string());
         (want, theirs.inner().to_vec())
-    }
-}
-
-impl Default for Run {
-    fn default() -> Run {
-        Run::new()
     }
 }

@@ -90,7 +90,7 @@ pub fn case(r: &mut Random, run: &mut Run) {
 
 /// The number that a slip gets; one that is accepted is written again.
 fn read(r: &mut Random, run: &mut Run, s: &Settings, slip: &[u8]) -> u64 {
-    let read = run.read(s.agreement, &s.keys, slip);
+    let read = run.read("read", s.agreement, &s.keys, slip);
     if read.number == 0 {
         again(r, run, s, slip, &read);
     }
@@ -109,7 +109,7 @@ fn other(r: &mut Random, run: &mut Run, s: &Settings, slip: &[u8], number: u64) 
     let agreement = another(r, if at_fault { s.agreement } else { named(slip, s.agreement.master) });
     let any = Settings::draw(r).keys;
     let keys = if once_in(r, 2) { &s.keys } else { &any };
-    let got = run.read_other(agreement, keys, slip).number;
+    let got = run.read("other", agreement, keys, slip).number;
     let line = || format!("slip {} {} {}, which names others", words(agreement), word(keys), word(slip));
     run.same(&got, &if at_fault { number } else { 25 }, line);
 }

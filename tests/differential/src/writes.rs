@@ -92,13 +92,13 @@ pub fn case(r: &mut Random, run: &mut Run) {
 /// The number that a write into a room of so many bytes gets. What is written is read back.
 fn write(r: &mut Random, run: &mut Run, s: &Settings, says: &Says, size: usize) -> u64 {
     let room = Room::new(r, size);
-    let (written, bytes) = run.write(s.agreement, &s.keys, says, room);
+    let (written, bytes) = run.write("write", s.agreement, &s.keys, says, room);
     if written.number == 0 {
         let slip = &bytes[..written.length as usize];
         let Says { year, month, day, ref lot, amount } = *says;
         let (calls, lot_len) = (written.calls, lot.len() as u64);
         let wanted = Slip { number: 0, year, month, day, amount, calls, lot_at: 14, lot_len };
-        let read = run.read_back(s.agreement, &s.keys, slip);
+        let read = run.read("back", s.agreement, &s.keys, slip);
         let ours = (length(s, says), read, &slip[14..14 + lot.len()]);
         run.same(&ours, &(slip.len(), wanted, &lot[..]), || format!("slip {} as written", word(slip)));
         gathered::slip(r, run, s, slip);
@@ -113,7 +113,7 @@ pub fn again(r: &mut Random, run: &mut Run, s: &Settings, slip: &[u8], read: &Sl
     let says = Says { year, month, day, lot: slip[lot_at..lot_end].to_vec(), amount };
     let size = slip.len() + r.below(3) as usize;
     let room = Room::new(r, size);
-    let (written, bytes) = run.write_again(s.agreement, &s.keys, &says, room);
+    let (written, bytes) = run.write("again", s.agreement, &s.keys, &says, room);
     let wanted = Written { number: 0, length: slip.len() as u64, calls };
     let what = || format!("slip {} {} {}, written again", words(s.agreement), word(&s.keys), word(slip));
     run.same(&(written, &bytes[..slip.len()]), &(wanted, slip), what);
