@@ -5,14 +5,6 @@
 
 static const slipseal_agreement five = {5, 4, 64, 0};
 
-static const slipseal_session zeros = {0};
-
-/* Whether a step has this answer and this very record. */
-static int gave(slipseal_step step, uint64_t number, uint64_t yes, uint64_t calls, slipseal_session record)
-{
-    return is(step.answer, number, yes, calls) && same(&step.session, &record);
-}
-
 /* Annex A's message under algorithm 5, fed in two pieces to a session that checks this tag. */
 static slipseal_session fed(const uint8_t *tag)
 {
@@ -208,8 +200,6 @@ static void not_read(void)
 /* The slip's fields of R6 under algorithm 1, padding 1, 12 bits, whose tag is A33: four spare bits, and each makes a no. */
 static void spare_bits(void)
 {
-    static const uint8_t fields[23] = {0x01, 0x00, 0x08, '2', '0', '2', '6', '1', '1', '0', '4', 0x02,
-                                       0x00, 0x02, 'A', '7', 0x03, 0x00, 0x04, 0x00, 0x00, 0x01, 0xF4};
     int spare;
     for (spare = 0; spare < 16; spare++) {
         const uint8_t tag[2] = {0xA3, (uint8_t)(0x30 | spare)};

@@ -1,4 +1,5 @@
-/* What the test programs share: the keys, the message and the tags of annex A, the count of tests, and small comparisons. */
+/* What the test programs share: the keys, the message and the tags of annex A, the fields of a slip, the count of tests, and small
+ * comparisons. */
 #ifndef EXPECT_H
 #define EXPECT_H
 
@@ -15,6 +16,13 @@ static const uint8_t second[16] = {0x41, 0x49, 0xD2, 0xAD, 0xED, 0x94, 0x56, 0x6
 
 /* Annex A.6, algorithm 5, padding 4, 64 bits. */
 static const uint8_t printed[8] = {0x69, 0x2C, 0x43, 0x71, 0x00, 0xF3, 0xB5, 0xEE};
+
+/* The first three fields of the slips of R6. */
+static const uint8_t fields[23] = {0x01, 0x00, 0x08, '2', '0', '2', '6', '1', '1', '0', '4', 0x02,
+                                   0x00, 0x02, 'A', '7', 0x03, 0x00, 0x04, 0x00, 0x00, 0x01, 0xF4};
+
+/* A closed record. */
+static const slipseal_session zeros = {0};
 
 static int tests, failures;
 
@@ -63,6 +71,12 @@ static inline int filled(const uint8_t *bytes, size_t length, uint8_t byte)
 static inline int same(const slipseal_session *a, const slipseal_session *b)
 {
     return memcmp(a, b, sizeof *a) == 0;
+}
+
+/* Whether a step has this answer and this very record. */
+static inline int gave(slipseal_step step, uint64_t number, uint64_t yes, uint64_t calls, slipseal_session record)
+{
+    return is(step.answer, number, yes, calls) && same(&step.session, &record);
 }
 
 /* A record for making a tag that holds the byte 61, with a chain value, a second key and an expected tag from nowhere. */

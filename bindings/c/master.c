@@ -11,17 +11,11 @@ static const uint8_t derived[2][16] = {
 /* R8, algorithm 4, padding 1, data 1: K is the key, and K' of annex A the master. The first 8 bytes are the tag of R8. */
 static const uint8_t fourth[16] = {0xDD, 0x64, 0x87, 0x3E, 0xEB, 0x7C, 0x96, 0x05, 0xB8, 0x0D, 0x0A, 0xF0, 0x97, 0xA3, 0xB5, 0x54};
 
-/* The first three fields of the slips of R6. */
-static const uint8_t fields[23] = {0x01, 0x00, 0x08, '2', '0', '2', '6', '1', '1', '0', '4', 0x02,
-                                   0x00, 0x02, 'A', '7', 0x03, 0x00, 0x04, 0x00, 0x00, 0x01, 0xF4};
-
 /* Numbers that stand for yes in an agreement; in a record the first alone does. */
 static const uint64_t yes[] = {
     1, 2, 3, 255, 256, 257, (uint64_t)1 << 32, ((uint64_t)1 << 32) + 1, (uint64_t)1 << 63, UINT64_MAX};
 
 #define YES (sizeof yes / sizeof yes[0])
-
-static const slipseal_session zeros = {0};
 
 /* Two keys, one after the other. */
 static uint8_t pair[32];
@@ -38,12 +32,6 @@ static slipseal_agreement mastered(uint64_t algorithm, uint64_t padding, uint64_
     slipseal_agreement agreement = agreed(algorithm, padding, m);
     agreement.master = 1;
     return agreement;
-}
-
-/* Whether a step has this answer and this very record. */
-static int gave(slipseal_step step, uint64_t number, uint64_t said, uint64_t calls, slipseal_session record)
-{
-    return is(step.answer, number, said, calls) && same(&step.session, &record);
 }
 
 /* A session fed byte by byte. */

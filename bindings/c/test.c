@@ -68,10 +68,8 @@ static void agreement(void)
 static void session(void)
 {
     uint8_t tag[20];
-    slipseal_session zeros;
     slipseal_step step, next;
     memset(tag, 0xAA, sizeof tag);
-    memset(&zeros, 0, sizeof zeros);
 
     step = slipseal_start(agreed(5, 4, 129), key, 16, 0);
     expect(is(step.answer, 3, 0, 0) && same(&step.session, &zeros), "a refused start hands back a closed record of zeros");
@@ -145,13 +143,18 @@ static void handed_back(void)
     finish_hands_back(record_of(agreed(1, 3, 64), 9, 8), 8, 12);
 }
 
+static int same_read(slipseal_slip a, slipseal_slip b)
+{
+    return memcmp(&a, &b, sizeof a) == 0;
+}
+
 /* Whether a slip was refused with this number, and has zeros beside it. */
 static int refused_with(slipseal_slip read, uint64_t number)
 {
-    slipseal_slip zeros;
-    memset(&zeros, 0, sizeof zeros);
-    zeros.number = number;
-    return memcmp(&read, &zeros, sizeof read) == 0;
+    slipseal_slip expected;
+    memset(&expected, 0, sizeof expected);
+    expected.number = number;
+    return same_read(read, expected);
 }
 
 static void slip(void)
@@ -200,9 +203,9 @@ static void agreements_of_slips(void)
     for (i = 0; i < 3; i++) {
         const sealed s = seals[i];
         const slipseal_agreement a = s.agreement;
-        slipseal_slip expected = example_read, read = read_sealed(a, s.keys_len, s.seal, s.seal_len);
+        slipseal_slip expected = example_read;
         expected.calls = s.calls;
-        expect(memcmp(&read, &expected, sizeof read) == 0, "a slip under its agreement");
+        expect(same_read(read_sealed(a, s.keys_len, s.seal, s.seal_len), expected), "a slip under its agreement");
         for (j = 0; j < sizeof off / sizeof off[0]; j++) {
             other_agreement(s, agreed(a.algorithm + off[j], a.padding, a.m));
             other_agreement(s, agreed(a.algorithm, a.padding + off[j], a.m));
@@ -292,11 +295,6 @@ static slipseal_slip read_under(sealed s, slipseal_gathered gathered)
     memcpy(keys, key, 16);
     memcpy(keys + 16, second, 16);
     return slipseal_read_gathered(s.agreement, keys, s.keys_len, gathered);
-}
-
-static int same_read(slipseal_slip a, slipseal_slip b)
-{
-    return memcmp(&a, &b, sizeof a) == 0;
 }
 
 static slipseal_gathered one_by_one(slipseal_gathered gathered, const uint8_t *bytes, size_t len)
@@ -438,8 +436,7 @@ static void written_and_read(void)
     slipseal_slip read;
     expect(told(written(w), 0, 37, 3), "write accepted");
     expect(slip_alone(example, 37), "the example's bytes and no more");
-    read = slipseal_read(w.agreement, key, 16, around + 8, 37);
-    expect(memcmp(&read, &example_read, sizeof read) == 0, "a written slip read");
+    expect(same_read(slipseal_read(w.agreement, key, 16, around + 8, 37), example_read), "a written slip read");
 
     read = slipseal_read(example_agreed, key, 16, example, 37);
     memset(around, 0xAA, sizeof around);

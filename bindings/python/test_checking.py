@@ -14,18 +14,11 @@ import unittest
 
 import slipseal
 from slipseal import Agreement, CheckingSession, Session, check, check_file, make
-from test_slipseal import FORGED, KEY, KEYS, MESSAGE, Case, Delivering, annex_a, forged, one_by_one
+from test_slipseal import FORGED, KEY, KEYS, MESSAGE, Case, Delivering, annex_a, forged, one_by_one, turned
 
 PLAIN, DECLARED = Agreement(5, 4, 64), Agreement(1, 3, 64)
 LIMIT, CHUNK = 1048576, 32768
 CERTIFICATE = bytes(i * i // 251 % 256 for i in range(100000))
-
-
-def turned(tag, place):
-    """With one bit turned."""
-    other = bytearray(tag)
-    other[place // 8] ^= 0x80 >> place % 8
-    return bytes(other)
 
 
 def fed(agreement, keys, tag, *pieces):
@@ -155,15 +148,9 @@ class Sessions(Case):
     def test_forged_records(self):
         for fields, closed in FORGED:
             session = checking(**fields)
-            before = bytes(session._record)
             with self.subTest(**fields):
-                if closed:
-                    self.refused(11, session.piece, b"")
-                    self.refused(11, session.finish)
-                    self.assertEqual(bytes(session._record), before)
-                else:
-                    session.piece(b"")
-                    self.assertEqual(bytes(session._record), before)
+                self.assertIs(self.closed(session), closed)
+                if not closed:
                     self.assertIs(session.finish().yes, False)
 
     def test_bytes_past_the_tag_are_not_read(self):

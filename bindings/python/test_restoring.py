@@ -11,28 +11,17 @@ import unittest
 
 import slipseal
 from slipseal import Agreement, check, make, restore
-from test_slipseal import KEY, KEYS, MESSAGE, Case, annex_a
+from test_slipseal import KEY, KEYS, MESSAGE, Case, annex_a, keys_of, turned
 
 PLAIN = Agreement(1, 1, 128)
-TAG = bytes.fromhex("16E02904EFB765B706459C9EDABDB519")  # G of A.1, data 1, padding 1
+TAG = bytes.fromhex("16E02904EFB765B706459C9EDABDB519")  # G of A.2, data 1, padding 1
 FULL = [(a, p) for a in (1, 2, 3, 4, 6) for p in (1, 2, 3)] + [(5, 4), (8, 4)]
 FAR = 2**64 - 1
-
-
-def keys_of(algorithm):
-    return KEYS if algorithm in (2, 3, 4, 6) else KEY
 
 
 def without(message, block, byte=b"?"):
     """With other bytes in the place of one whole block."""
     return message[: 16 * block] + 16 * byte + message[16 * block + 16 :]
-
-
-def turned(data, place):
-    """With one bit turned."""
-    other = bytearray(data)
-    other[place // 8] ^= 0x80 >> place % 8
-    return bytes(other)
 
 
 class Restoring(Case):

@@ -1,5 +1,5 @@
 """Tests of slipseal.py: annex A in one call and in pieces, the runs R4 to R7 of the requirements, slips written and read, slips
-that name something else than was agreed, slips that come in odd lengths, every refusal with its words, records that no call handed
+that name something else than was agreed, slips that come in odd lengths, every refusal, what one says, records that no call handed
 out, and what Python alone can get wrong (numbers too large, other kinds of bytes and of files, what is no date, a "no" taken for
 true). Checks in a session and of files are in test_checking.py, lost blocks in test_restoring.py, masters in test_master.py.
 
@@ -12,7 +12,6 @@ import doctest
 import errno
 import io
 import os
-import re
 import subprocess
 import sys
 import threading
@@ -59,6 +58,17 @@ def annex_a():
             tags = {64: bytes.fromhex(tag), 128: bytes.fromhex(g)}
         for m, tag in tags.items():
             yield Agreement(algorithm, padding, m), bytes.fromhex(keys), message, tag, calls
+
+
+def keys_of(algorithm):
+    return KEYS if algorithm in (2, 3, 4, 6) else KEY
+
+
+def turned(data, place):
+    """With one bit turned."""
+    other = bytearray(data)
+    other[place // 8] ^= 0x80 >> place % 8
+    return bytes(other)
 
 
 # Other values in the record of a session that has the byte 61, and whether it then counts as closed.
@@ -114,6 +124,20 @@ class Case(unittest.TestCase):
             call(*arguments, **named)
         self.assertEqual(caught.exception.number, number)
 
+    def closed(self, session):
+        """Whether a session's record counts as closed: its calls are refused with 11. A piece of no bits leaves it as it is."""
+        before = bytes(session._record)
+        try:
+            session.piece(b"")
+            closed = False
+        except Refused as refused:
+            closed = True
+            self.assertEqual(refused.number, 11)
+            self.refused(11, session.piece, b"ab", 8)
+            self.refused(11, session.finish)
+        self.assertEqual(bytes(session._record), before)
+        return closed
+
 
 class AnnexA(Case):
     def test_count(self):
@@ -124,9 +148,7 @@ class AnnexA(Case):
             self.assertEqual(make(agreement, keys, message), (tag, calls))
             self.assertEqual(check(agreement, keys, message, tag), (True, calls))
             for place in range(8 * len(tag)):
-                other = bytearray(tag)
-                other[place // 8] ^= 0x80 >> place % 8
-                self.assertEqual(check(agreement, keys, message, other), (False, calls))
+                self.assertEqual(check(agreement, keys, message, turned(tag, place)), (False, calls))
 
     def test_sessions_cut_at_every_byte(self):
         for agreement, keys, message, tag, calls in annex_a():
@@ -152,9 +174,8 @@ class OneCall(Case):
             (6, 1, 128, b"\xFF", 1, "32A9B595071FB6A555C318906399D419", 1),
             (7, 4, 63, b"\xFF" * 16, 128, "6811AF7E097364E6", 1),
         ):
-            keys = KEYS if algorithm in (2, 3, 4, 6) else KEY
             agreement = Agreement(algorithm, padding, m)
-            self.assertEqual(make(agreement, keys, message, bits), (bytes.fromhex(tag), calls))
+            self.assertEqual(make(agreement, keys_of(algorithm), message, bits), (bytes.fromhex(tag), calls))
 
     def test_r5_algorithm_3_with_the_same_key_twice(self):
         tag = bytes.fromhex("9054FCCFF72871FDAD5202C821DBEA05")
@@ -249,15 +270,9 @@ class Sessions(Case):
     def test_forged_records(self):
         for fields, closed in FORGED:
             session = forged(**fields)
-            before = bytes(session._record)
             with self.subTest(**fields):
-                if closed:
-                    self.refused(11, session.piece, b"")
-                    self.refused(11, session.finish)
-                    self.assertEqual(bytes(session._record), before)
-                else:
-                    session.piece(b"")
-                    self.assertEqual(bytes(session._record), before)
+                self.assertIs(self.closed(session), closed)
+                if not closed:
                     self.assertEqual(len(session.finish().tag), 8)
 
     def test_a_refusal_hands_back_the_very_record(self):
@@ -381,7 +396,7 @@ class Slips(Case):
     def test_both_ways(self):
         """A slip made with make is read to its contents and written from them."""
         for algorithm in range(1, 9):
-            keys = KEYS if algorithm in (2, 3, 4, 6) else KEY
+            keys = keys_of(algorithm)
             for padding in (4,) if algorithm in (5, 7, 8) else (1, 2, 3):
                 for m in (1, 7, 8, 9, 12, 63) if algorithm == 7 else (1, 7, 8, 9, 12, 63, 64, 127, 128):
                     agreement = Agreement(algorithm, padding, m)
@@ -621,13 +636,6 @@ class Gathering(Case):
 
 
 class Words(Case):
-    def test_words_are_those_of_the_card_and_the_header(self):
-        card = re.findall(r"^\| (\d+) \| ([^|]+) \|", text("docs", "ANSWERS.md"), re.MULTILINE)
-        header = re.findall(r"^ \* +(\d+)  ([a-z].+)$", text("include", "slipseal.h"), re.MULTILINE)
-        words = sorted(slipseal.WORDS.items())
-        self.assertEqual(sorted((int(number), words) for number, words in card), words)
-        self.assertEqual([(int(number), words) for number, words in header], words)
-
     def test_refused_says_them(self):
         refused = Refused(30)
         self.assertEqual((refused.number, refused.words), (30, "the seal is wrong"))

@@ -4,14 +4,15 @@ use std::fs::File;
 use std::io::{self, ErrorKind, Read};
 use std::path::Path;
 
-use crate::{Agreement, Checked, CheckingSession, Refusal, Session};
+use crate::{Agreement, Checked, Session};
 
 /// The most bytes of one read.
 const CHUNK: usize = 32 << 10;
 
 /// Checks a certificate under its tag while a reader delivers it, to the end of input, in chunks of up to 32 KiB: each read is one
-/// piece of a [`CheckingSession`]. `declared` is the certificate's number of bits, read under padding 3 only. After each chunk
-/// `on_progress` is told the number of bytes so far. After `Interrupted` the reader is read again, as the standard library does.
+/// piece of a [`CheckingSession`](crate::CheckingSession). `declared` is the certificate's number of bits, read under padding 3 only.
+/// After each chunk `on_progress` is told the number of bytes so far. After `Interrupted` the reader is read again, as the standard
+/// library does.
 ///
 /// It answers as [`check`](crate::check) does for the whole certificate. The first refusal is the answer, and no more is read: those
 /// of a start, 10 for the tag's length among them, before the first read; 8, or 12 under padding 3, at the chunk that makes the
@@ -61,7 +62,8 @@ pub fn check_reader(
     let mut total = 0;
     loop {
         match reader.read(&mut buffer) {
-            Ok(0) => return Ok(at_the_end(session)),
+            // no more bits will come, so the session is not handed back
+            Ok(0) => return Ok(session.finish().into()),
             Ok(count) => {
                 if let Err(refusal) = session.piece(&buffer[..count], 8 * count) {
                     return Ok(Checked::Refused(refusal));
@@ -72,15 +74,6 @@ pub fn check_reader(
             Err(error) if error.kind() == ErrorKind::Interrupted => {}
             Err(error) => return Err(error),
         }
-    }
-}
-
-/// No more bits will come, so the session is not handed back.
-fn at_the_end(session: CheckingSession) -> Checked<Refusal> {
-    match session.finish() {
-        Checked::Yes { calls } => Checked::Yes { calls },
-        Checked::No { calls } => Checked::No { calls },
-        Checked::Refused(refused) => Checked::Refused(refused.refusal),
     }
 }
 

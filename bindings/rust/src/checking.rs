@@ -104,3 +104,14 @@ impl fmt::Debug for CheckingSession {
         session::show("CheckingSession", &self.record, f)
     }
 }
+
+/// The answer as that of one call: a refusal comes without its session.
+impl From<Checked<RefusedCheck>> for Checked {
+    fn from(checked: Checked<RefusedCheck>) -> Checked {
+        match checked {
+            Checked::Yes { calls } => Checked::Yes { calls },
+            Checked::No { calls } => Checked::No { calls },
+            Checked::Refused(refused) => Checked::Refused(refused.refusal),
+        }
+    }
+}

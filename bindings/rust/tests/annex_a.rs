@@ -3,7 +3,7 @@
 
 mod common;
 
-use common::{agreed, annex_a, calls, Vector};
+use common::{agreed, annex_a, calls, turned, Vector};
 use slipseal::{check, make, Agreement, Checked, Session};
 
 /// The agreements and tags to try for a vector.
@@ -36,9 +36,7 @@ fn made_and_checked_in_one_call() {
             assert_eq!((made.tag, made.calls), (&tag[..], calls), "{agreement:?}");
             assert_eq!(room[tag.len()..], vec![0xAA; 20 - tag.len()], "bytes past the tag stay");
             assert_eq!(check(agreement, &v.keys, v.message, bits, &tag), Checked::Yes { calls });
-            for place in 0..8 * tag.len() {
-                let mut other = tag.clone();
-                other[place / 8] ^= 0x80 >> (place % 8);
+            for other in turned(&tag) {
                 assert_eq!(check(agreement, &v.keys, v.message, bits, &other), Checked::No { calls });
             }
         }
@@ -77,29 +75,21 @@ fn checks_in_sessions_cut_at_every_byte() {
         let bits = 8 * v.message.len();
         let calls = calls(v.algorithm, v.padding, bits);
         for (agreement, tag) in tags(&v) {
-            let finished = |tag: &[u8], pieces: &mut dyn Iterator<Item = &[u8]>| {
+            let finished = |tag: &[u8], pieces: &mut dyn Iterator<Item = &[u8]>| -> Checked {
                 let mut session = Session::check(agreement, &v.keys, bits, tag).unwrap();
                 pieces.for_each(|piece| session.piece(piece, 8 * piece.len()).unwrap());
-                session.finish()
+                session.finish().into()
             };
             for cut in 0..=v.message.len() {
                 let (front, back) = v.message.split_at(cut);
                 let checked = finished(&tag, &mut [front, back].into_iter());
-                assert!(
-                    matches!(checked, Checked::Yes { calls: n } if n == calls),
-                    "{agreement:?} cut at {cut}"
-                );
+                assert_eq!(checked, Checked::Yes { calls }, "{agreement:?} cut at {cut}");
             }
             let checked = finished(&tag, &mut v.message.chunks(1));
-            assert!(matches!(checked, Checked::Yes { calls: n } if n == calls), "{agreement:?} byte by byte");
-            for place in 0..8 * tag.len() {
-                let mut other = tag.clone();
-                other[place / 8] ^= 0x80 >> (place % 8);
+            assert_eq!(checked, Checked::Yes { calls }, "{agreement:?} byte by byte");
+            for (place, other) in turned(&tag).enumerate() {
                 let checked = finished(&other, &mut v.message.chunks(1));
-                assert!(
-                    matches!(checked, Checked::No { calls: n } if n == calls),
-                    "{agreement:?} bit {place}"
-                );
+                assert_eq!(checked, Checked::No { calls }, "{agreement:?} bit {place}");
             }
         }
     }

@@ -4,7 +4,7 @@
 
 mod common;
 
-use common::{agreed, key, keys, MESSAGE};
+use common::{agreed, key, keys, turned, MESSAGE};
 use slipseal::{check, make, Agreement, Checked, CheckingSession, Refusal, RefusedCheck, Session};
 
 fn tag_of(agreement: Agreement, keys: &[u8], message: &[u8], bits: usize) -> Vec<u8> {
@@ -12,12 +12,8 @@ fn tag_of(agreement: Agreement, keys: &[u8], message: &[u8], bits: usize) -> Vec
 }
 
 /// As the answer of a check in one call, to be compared with it.
-fn told(checked: Checked<RefusedCheck>) -> Checked {
-    match checked {
-        Checked::Yes { calls } => Checked::Yes { calls },
-        Checked::No { calls } => Checked::No { calls },
-        Checked::Refused(refused) => Checked::Refused(refused.refusal),
-    }
+fn finished(session: CheckingSession) -> Checked {
+    session.finish().into()
 }
 
 /// The refusal of a finish, and the session that comes back.
@@ -43,7 +39,7 @@ fn every_number_of_bits_in_two_pieces() {
                 session.piece(&message[..cut], 8 * cut).unwrap();
                 session.piece(&message[cut..], bits - 8 * cut).unwrap();
                 session.piece(b"", 0).unwrap();
-                let checked = told(session.finish());
+                let checked = finished(session);
                 assert_eq!(checked.is_yes(), yes, "{agreement:?}, {bits} bits");
                 assert_eq!(
                     checked,
@@ -106,7 +102,7 @@ fn refused_finishes_hand_the_session_back() {
     let (refusal, mut session) = refused(session);
     assert_eq!(refusal.to_string(), "refused 12: the message is not as long as was declared");
     session.piece(&MESSAGE[4..5], 8).unwrap();
-    assert_eq!(told(session.finish()), Checked::Yes { calls: 3 });
+    assert_eq!(finished(session), Checked::Yes { calls: 3 });
 
     let four = agreed(4, 1, 64);
     let tag = tag_of(four, &keys(), &MESSAGE[..17], 129);
@@ -115,7 +111,7 @@ fn refused_finishes_hand_the_session_back() {
     let (refusal, mut session) = refused(session);
     assert_eq!(refusal.number(), 9);
     session.piece(&MESSAGE[16..17], 1).unwrap();
-    assert_eq!(told(session.finish()), Checked::Yes { calls: 4 });
+    assert_eq!(finished(session), Checked::Yes { calls: 4 });
 }
 
 #[test]
@@ -123,16 +119,14 @@ fn a_spare_bit_makes_a_no() {
     for m in 1..=128 {
         let agreement = agreed(1, 1, m);
         let right = tag_of(agreement, &key(), MESSAGE, 256);
-        for place in 0..8 * right.len() {
-            let mut tag = right.clone();
-            tag[place / 8] ^= 0x80 >> (place % 8);
+        for (place, tag) in turned(&right).enumerate() {
             let mut session = Session::check(agreement, &key(), 0, &tag).unwrap();
             session.piece(MESSAGE, 256).unwrap();
-            assert_eq!(told(session.finish()), Checked::No { calls: 2 }, "m {m}, bit {place}");
+            assert_eq!(finished(session), Checked::No { calls: 2 }, "m {m}, bit {place}");
         }
         let mut session = Session::check(agreement, &key(), 0, &right).unwrap();
         session.piece(MESSAGE, 256).unwrap();
-        assert_eq!(told(session.finish()), Checked::Yes { calls: 2 }, "m {m}");
+        assert_eq!(finished(session), Checked::Yes { calls: 2 }, "m {m}");
     }
 }
 

@@ -4,7 +4,7 @@
 
 mod common;
 
-use common::{agreed, annex_a, calls, hex, key, keys, slip, Vector, GOOD, MESSAGE};
+use common::{agreed, annex_a, calls, hex, key, keys, slip, turned, Vector, GOOD, MESSAGE};
 use slipseal::raw::{self, Record};
 use slipseal::{
     check, make, read_slip, restore, write_slip, Agreement, Checked, Contents, Session, SlipReader,
@@ -48,15 +48,6 @@ fn cases() -> Vec<Case> {
     cases.push((mastered(4, 1, 64), keys(), MESSAGE, hex(FOURTH)[..8].to_vec(), 6));
     cases.push((mastered(4, 1, 128), keys(), MESSAGE, hex(FOURTH), 6));
     cases
-}
-
-/// With each of its bits turned.
-fn turned(tag: &[u8]) -> impl Iterator<Item = Vec<u8>> + '_ {
-    (0..8 * tag.len()).map(|place| {
-        let mut other = tag.to_vec();
-        other[place / 8] ^= 0x80 >> (place % 8);
-        other
-    })
 }
 
 // ---- tags

@@ -3,14 +3,8 @@
 
 mod common;
 
-use common::{agreed, hex, key, keys, MESSAGE};
+use common::{agreed, hex, key, keys, keys_of, made, MESSAGE};
 use slipseal::{check, make, Agreement, Checked};
-
-fn made(agreement: Agreement, keys: &[u8], message: &[u8], bits: usize) -> (Vec<u8>, u64) {
-    let mut room = [0; 16];
-    let made = make(agreement, keys, message, bits, &mut room).unwrap();
-    (made.tag.to_vec(), made.calls)
-}
 
 /// The number of a refused `make`, which must leave the room; `check` must be refused alike.
 fn refused(agreement: Agreement, keys: &[u8], message: &[u8], bits: usize, room: usize) -> u64 {
@@ -36,8 +30,7 @@ fn r4_short_messages() {
         (6, 1, 128, &ones[..1], 1, "32A9B595071FB6A555C318906399D419", 1),
         (7, 4, 63, &ones[..], 128, "6811AF7E097364E6", 1),
     ] {
-        let keys = if matches!(algorithm, 2..=4 | 6) { keys() } else { key() };
-        let got = made(agreed(algorithm, padding, m), &keys, message, bits);
+        let got = made(agreed(algorithm, padding, m), &keys_of(algorithm), message, bits);
         assert_eq!(got, (hex(tag), calls), "algorithm {algorithm}, padding {padding}");
     }
 }

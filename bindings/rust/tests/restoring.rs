@@ -4,10 +4,10 @@
 
 mod common;
 
-use common::{agreed, annex_a, hex, key, keys, MESSAGE};
+use common::{agreed, annex_a, hex, key, keys, keys_of, MESSAGE};
 use slipseal::{check, make, restore, Agreement, Checked, Refusal};
 
-/// G of A.1 under padding 1, of data 1 and of data 2.
+/// G of A.2 under padding 1, of data 1 and of data 2.
 const G: [&str; 2] = ["16E02904EFB765B706459C9EDABDB519", "BA89E45FE8ABF242E26CE032AD007C09"];
 
 /// Each algorithm that has tags of 128 bits, with each of its paddings.
@@ -30,14 +30,6 @@ const FULL: [(u64, u64); 17] = [
     (6, 3),
     (8, 4),
 ];
-
-fn keys_of(algorithm: u64) -> Vec<u8> {
-    if matches!(algorithm, 2..=4 | 6) {
-        keys()
-    } else {
-        key()
-    }
-}
 
 /// The bytes with others in the place of one whole block.
 fn without(message: &[u8], block: usize, byte: u8) -> Vec<u8> {

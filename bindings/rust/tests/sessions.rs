@@ -3,14 +3,8 @@
 
 mod common;
 
-use common::{agreed, key, keys, MESSAGE};
-use slipseal::{make, Agreement, Session};
-
-fn one_call(agreement: Agreement, keys: &[u8], message: &[u8], bits: usize) -> (Vec<u8>, u64) {
-    let mut room = [0; 16];
-    let made = make(agreement, keys, message, bits, &mut room).unwrap();
-    (made.tag.to_vec(), made.calls)
-}
+use common::{agreed, key, keys, made, MESSAGE};
+use slipseal::Session;
 
 fn finished(session: Session) -> (Vec<u8>, u64) {
     let mut room = [0; 16];
@@ -30,7 +24,7 @@ fn every_number_of_bits_in_two_pieces() {
             session.piece(&message[..cut], 8 * cut).unwrap();
             session.piece(&message[cut..], bits - 8 * cut).unwrap();
             session.piece(b"", 0).unwrap();
-            let whole = one_call(agreement, &keys, message, bits);
+            let whole = made(agreement, &keys, message, bits);
             assert_eq!(finished(session), whole, "{agreement:?}, {bits} bits");
         }
     }
@@ -67,7 +61,7 @@ fn refused_pieces_leave_the_session() {
     assert_eq!(session.piece(b"", 8).unwrap_err().number(), 11);
     assert_eq!(session.piece(b"a", 0).unwrap_err().number(), 7);
     session.piece(b"", 0).unwrap();
-    assert_eq!(finished(session), one_call(plain, &key(), &MESSAGE[..6], 43));
+    assert_eq!(finished(session), made(plain, &key(), &MESSAGE[..6], 43));
 }
 
 #[test]
@@ -80,11 +74,11 @@ fn the_declared_length() {
     assert_eq!(refused.to_string(), "refused 12: the message is not as long as was declared");
     let mut session = refused.session;
     session.piece(&MESSAGE[4..5], 8).unwrap();
-    assert_eq!(finished(session), one_call(declared, &keys(), &MESSAGE[..5], 40));
+    assert_eq!(finished(session), made(declared, &keys(), &MESSAGE[..5], 40));
 
     let mut empty = Session::start(declared, &keys(), 0).unwrap();
     assert_eq!(empty.piece(&[0], 1).unwrap_err().number(), 12);
-    assert_eq!(finished(empty), one_call(declared, &keys(), b"", 0));
+    assert_eq!(finished(empty), made(declared, &keys(), b"", 0));
 }
 
 #[test]
@@ -100,7 +94,7 @@ fn a_refused_finish_hands_the_session_back() {
     let refused = session.finish(&mut room[..7]).unwrap_err();
     assert_eq!(refused.refusal.number(), 10);
     assert_eq!(room, [0xAA; 8]);
-    assert_eq!(finished(refused.session), one_call(four, &keys(), &MESSAGE[..17], 129));
+    assert_eq!(finished(refused.session), made(four, &keys(), &MESSAGE[..17], 129));
 }
 
 #[test]
@@ -120,7 +114,7 @@ fn the_longest_message_in_pieces() {
         session.piece(&zeros, 8 * zeros.len()).unwrap();
     }
     assert_eq!(session.piece(&[0], 1).unwrap_err().number(), 8);
-    assert_eq!(finished(session), one_call(plain, &key(), &vec![0; 1_048_576], 8_388_608));
+    assert_eq!(finished(session), made(plain, &key(), &vec![0; 1_048_576], 8_388_608));
 }
 
 #[test]

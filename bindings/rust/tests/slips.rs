@@ -4,7 +4,7 @@
 
 mod common;
 
-use common::{agreed, calls, first, hex, key, keys, slip, AGREED, COVERED, GOOD, R6};
+use common::{agreed, calls, first, hex, key, keys, keys_of, slip, AGREED, COVERED, GOOD, R6};
 use slipseal::{make, raw, read_slip, write_slip, Agreement, Contents};
 
 /// The number of a refused slip, which must have zeros beside it.
@@ -273,7 +273,7 @@ fn r6_written() {
 #[test]
 fn both_ways() {
     for algorithm in 1..=8 {
-        let keys = if matches!(algorithm, 2..=4 | 6) { keys() } else { key() };
+        let keys = keys_of(algorithm);
         let paddings = if matches!(algorithm, 5 | 7 | 8) { 4..=4 } else { 1..=3 };
         let most = if algorithm == 7 { 63 } else { 128 };
         for (padding, m) in paddings.flat_map(|padding| (1..=most).map(move |m| (padding, m))) {

@@ -3,7 +3,7 @@
 
 use std::io::{self, ErrorKind, Read};
 
-use slipseal::{Agreement, Contents};
+use slipseal::{make, Agreement, Contents};
 
 pub const MESSAGE: &[u8; 32] = b"This is the test message for mac";
 
@@ -22,8 +22,33 @@ pub fn keys() -> Vec<u8> {
     hex("0123456789ABCDEFFEDCBA9876543210 4149D2ADED9456681EC8B511D9E7EE04")
 }
 
+/// The keys of annex A that an algorithm takes.
+pub fn keys_of(algorithm: u64) -> Vec<u8> {
+    if matches!(algorithm, 2..=4 | 6) {
+        keys()
+    } else {
+        key()
+    }
+}
+
 pub const fn agreed(algorithm: u64, padding: u64, m: u64) -> Agreement {
     Agreement { algorithm, padding, m, master: false }
+}
+
+/// The tag and the calls of one call.
+pub fn made(agreement: Agreement, keys: &[u8], message: &[u8], bits: usize) -> (Vec<u8>, u64) {
+    let mut room = [0; 16];
+    let made = make(agreement, keys, message, bits, &mut room).unwrap();
+    (made.tag.to_vec(), made.calls)
+}
+
+/// With each of its bits turned, the first one first.
+pub fn turned(tag: &[u8]) -> impl Iterator<Item = Vec<u8>> + '_ {
+    (0..8 * tag.len()).map(|place| {
+        let mut other = tag.to_vec();
+        other[place / 8] ^= 0x80 >> (place % 8);
+        other
+    })
 }
 
 pub struct Vector {
