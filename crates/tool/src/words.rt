@@ -38,7 +38,8 @@ pub(crate) fn print_refusal(number: usize) {
     print(b"\n");
 }
 
-// A slip gets 1 to 5, 10 and 20 to 30, a certificate 1 to 5, 8 to 10 and 12; 7, 11 and 41 are other calls' answers; 6 is retired.
+// A slip gets 1 to 5, 10, 20 to 25 and 30, a certificate 1 to 5, 8 to 10 and 12; 7, 11 and 41 are other calls' answers, and 6 is
+// retired.
 fn print_meaning(number: usize) {
     if number < 7 {
         print_meaning_of_settings(number);
