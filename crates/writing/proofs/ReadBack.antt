@@ -21,7 +21,7 @@ use Rattle.fields.proofs.Inside.{lot-there, seal-there, seal-long}
 use Rattle.fields.proofs.Whole.{after-lot, after-amount}
 use Rattle.fields.proofs.Written.{written-length, written-value, written-after, written-clear}
 use Rattle.fields.proofs.Dates.{Real, real-date, calendar}
-use Rattle.fields.proofs.Formed.{Within, field-numbered, end-whole, inside}
+use Rattle.fields.proofs.Formed.{Within, own-first, end-whole, inside}
 use Rattle.fields.proofs.Laid.{expiry-numbered, lot-numbered, amount-numbered}
 use Rattle.fields.specs.declared.Row.{Row}
 use Rattle.writing.proofs.Sayable.{Sayable}
@@ -61,25 +61,26 @@ month-most b m = go b (eqb m 2) (eqb m 4 || (eqb m 6 || (eqb m 9 || eqb m 11)))
 abbrev pub saysOf : List ℕ → Says
 saysOf s = said (yearOf s) (monthOf s) (dayOf s) (value (lotField s)) (amountOf (amountField s))
 
+-- the digits of what is to be said
+abbrev expiryOf : Says → List ℕ
+expiryOf x = expiryValue (x .year) (x .month) (x .day)
+
 module _ (x : Says) (rest : List ℕ) where
   -- the slip
   abbrev s : List ℕ
   s = coveredOf x ++ rest
 
-  abbrev expiryOf : List ℕ
-  expiryOf = expiryValue (x .year) (x .month) (x .day)
-
   -- ---- where the fields stand
 
-  pub in-turn : s ≡ fieldOf expiryRow expiryOf ++ (fieldOf lotRow (x .lot) ++ (fieldOf amountRow (amountValue (x .amount)) ++ rest))
+  pub in-turn : s ≡ fieldOf expiryRow (expiryOf x) ++ (fieldOf lotRow (x .lot) ++ (fieldOf amountRow (amountValue (x .amount)) ++ rest))
   unfolding coveredOf
   in-turn =
-      append-assoc (fieldOf expiryRow expiryOf) (fieldOf lotRow (x .lot) ++ fieldOf amountRow (amountValue (x .amount))) rest
-      ∙ ap (λ (l : List ℕ). fieldOf expiryRow expiryOf ++ l) (append-assoc (fieldOf lotRow (x .lot)) (fieldOf amountRow (amountValue (x .amount))) rest)
+      append-assoc (fieldOf expiryRow (expiryOf x)) (fieldOf lotRow (x .lot) ++ fieldOf amountRow (amountValue (x .amount))) rest
+      ∙ ap (λ (l : List ℕ). fieldOf expiryRow (expiryOf x) ++ l) (append-assoc (fieldOf lotRow (x .lot)) (fieldOf amountRow (amountValue (x .amount))) rest)
 
   lot-back : lotField s ≡ fieldOf lotRow (x .lot) ++ (fieldOf amountRow (amountValue (x .amount)) ++ rest)
   unfolding lotField lotAt
-  lot-back = ap (λ (l : List ℕ). drop (endOf l) l) in-turn ∙ written-after expiryRow expiryOf _
+  lot-back = ap (λ (l : List ℕ). drop (endOf l) l) in-turn ∙ written-after expiryRow (expiryOf x) _
 
   amount-back : amountField s ≡ fieldOf amountRow (amountValue (x .amount)) ++ rest
   amount-back = sym (after-lot s) ∙ ap (λ (l : List ℕ). drop (endOf l) l) lot-back ∙ written-after lotRow (x .lot) _
@@ -122,7 +123,7 @@ module _ (x : Says) (rest : List ℕ) where
     unfolding dayOf twoDigits digitAt expiryValue
     day-back = ap dayOf in-turn ∙ two-back (x .day) (omega (arith, real .day-in, month-most (leap (x .year)) (x .month)))
 
-    pub amount-of-back : amountOf (amountField s) ≡ x .amount
+    amount-of-back : amountOf (amountField s) ≡ x .amount
     unfolding amountOf twoBytes amountValue
     amount-of-back = ap amountOf amount-back ∙ omega (arith, ok .microlitres)
 
@@ -151,32 +152,34 @@ byte-in n = record { low = omega arith; high = omega arith }
 
 -- no fault of the row's, and not the field's own
 own-clear : (row : Row) (field : List ℕ) (k : ℕ) (b : Bool) → firstOf (fieldFaults row field) ≡ 0 → b ≡ false → firstOf (fieldFaults row field ++ (k given b ∷ [])) ≡ 0
-unfolding firstOf pick
-own-clear row field k b e h = first-append-clear (fieldFaults row field) (k given b ∷ []) (field-numbered row field) e ∙ rw h refl
+unfolding pick
+own-clear row field k b e h = sym (own-first row field k b _ 0 refl e (rw h refl))
+
+-- of the covered fields, whatever comes after them
+module _ (x : Says) (ok : Sayable x) (rest : List ℕ) where
+  pub expiry-clear : firstOf (expiryFaults (s x rest)) ≡ 0
+  unfolding expiryFaults expiryValue
+  expiry-clear =
+      own-clear expiryRow (s x rest) 23 _
+      (rw (in-turn x rest) (written-clear expiryRow (expiryOf x) _ (omega arith) (omega arith)
+      (all-in 0x30 0x39 digitOf digit-in (x .year / 1000 ∷ x .year / 100 ∷ x .year / 10 ∷ x .year ∷ x .month / 10 ∷ x .month ∷ x .day / 10 ∷ x .day ∷ []))))
+      (ap (λ (y : Says). dateWrong (y .year) (y .month) (y .day)) (says-back x rest ok) ∙ ok .date)
+
+  pub lot-clear : firstOf (lotFaults (lotField (s x rest))) ≡ 0
+  unfolding lotFaults
+  lot-clear = rw (lot-back x rest) (written-clear lotRow (x .lot) _ (ok .lot-length .low) (ok .lot-length .high) (ok .lot-bytes))
+
+  pub amount-clear : firstOf (amountFaults (amountField (s x rest))) ≡ 0
+  unfolding amountFaults amountValue
+  amount-clear =
+      own-clear amountRow (amountField (s x rest)) 22 _
+      (rw (amount-back x rest) (written-clear amountRow (amountValue (x .amount)) _ (omega arith) (omega arith)
+      (all-in 0x00 0xff (λ n. n % 256) byte-in (x .amount / 16777216 ∷ x .amount / 65536 ∷ x .amount / 256 ∷ x .amount ∷ []))))
+      (ap (λ (n : ℕ). amountWrong n) (amount-of-back x rest ok) ∙ inside 1 1000000 (x .amount) (ok .microlitres))
 
 module _ (x : Says) (ok : Sayable x) (v : List ℕ) (least : 4 ≤ length v) (most : length v ≤ 19) (bytes : anyOutside 0x00 0xff v ≡ false) where
   abbrev whole : List ℕ
   whole = coveredOf x ++ fieldOf sealRow v
-
-  expiry-clear : firstOf (expiryFaults whole) ≡ 0
-  unfolding expiryFaults expiryValue
-  expiry-clear =
-      own-clear expiryRow whole 23 _
-      (rw (in-turn x (fieldOf sealRow v)) (written-clear expiryRow (expiryOf x (fieldOf sealRow v)) _ (omega arith) (omega arith)
-      (all-in 0x30 0x39 digitOf digit-in (x .year / 1000 ∷ x .year / 100 ∷ x .year / 10 ∷ x .year ∷ x .month / 10 ∷ x .month ∷ x .day / 10 ∷ x .day ∷ []))))
-      (ap (λ (y : Says). dateWrong (y .year) (y .month) (y .day)) (says-back x (fieldOf sealRow v) ok) ∙ ok .date)
-
-  lot-clear : firstOf (lotFaults (lotField whole)) ≡ 0
-  unfolding lotFaults
-  lot-clear = rw (lot-back x (fieldOf sealRow v)) (written-clear lotRow (x .lot) _ (ok .lot-length .low) (ok .lot-length .high) (ok .lot-bytes))
-
-  amount-clear : firstOf (amountFaults (amountField whole)) ≡ 0
-  unfolding amountFaults amountValue
-  amount-clear =
-      own-clear amountRow (amountField whole) 22 _
-      (rw (amount-back x (fieldOf sealRow v)) (written-clear amountRow (amountValue (x .amount)) _ (omega arith) (omega arith)
-      (all-in 0x00 0xff (λ n. n % 256) byte-in (x .amount / 16777216 ∷ x .amount / 65536 ∷ x .amount / 256 ∷ x .amount ∷ []))))
-      (ap (λ (n : ℕ). amountWrong n) (amount-of-back x (fieldOf sealRow v) ok) ∙ inside 1 1000000 (x .amount) (ok .microlitres))
 
   seal-clear : firstOf (sealFaults (sealField whole)) ≡ 0
   unfolding sealFaults
@@ -189,7 +192,7 @@ module _ (x : Says) (ok : Sayable x) (v : List ℕ) (least : 4 ≤ length v) (mo
   pub layout-back : firstOf (layoutFaults whole) ≡ 0
   unfolding layoutFaults
   layout-back =
-      first-append-clear (expiryFaults whole) _ (expiry-numbered whole) expiry-clear
-      ∙ first-append-clear (lotFaults (lotField whole)) _ (lot-numbered (lotField whole)) lot-clear
-      ∙ first-append-clear (amountFaults (amountField whole)) _ (amount-numbered (amountField whole)) amount-clear
+      first-append-clear (expiryFaults whole) _ (expiry-numbered whole) (expiry-clear x ok (fieldOf sealRow v))
+      ∙ first-append-clear (lotFaults (lotField whole)) _ (lot-numbered (lotField whole)) (lot-clear x ok (fieldOf sealRow v))
+      ∙ first-append-clear (amountFaults (amountField whole)) _ (amount-numbered (amountField whole)) (amount-clear x ok (fieldOf sealRow v))
       ∙ seal-clear

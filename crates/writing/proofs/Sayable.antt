@@ -1,16 +1,16 @@
 -- What is not refused: the lot, the amount and the date are as their rules ask (`sayable`). And what `lay_out` answers: the
 -- refusal, or the covered bytes first.
 -- Assumes nothing.
-use mathlib.Core.Path.{_≡_, refl, sym, ap, _∙_}
-use mathlib.Core.Bool.{Bool, true, false}
+use mathlib.Core.Path.{_≡_, refl, ap, _∙_}
+use mathlib.Core.Bool.{false}
 use mathlib.Core.List.{List, _++_}
 use Prim.Native.Nat.{ℕ, _+_, _≤_}
 use native.Mathlib.Omega.{arith}
 use lib.ListN.{length, take, drop, replicate, length-append}
 use lib.Seq.{take-at}
-use lib.Dec.{eqb}
-use borrow.Author.Tests.{eqb-true, eqb-false, ne-eqb}
 use Rattle.bits.specs.Choice.{pick, firstOf}
+use Rattle.bits.proofs.Strings.{neither}
+use Rattle.bits.proofs.Choice.{chosen-number}
 use Rattle.bits.proofs.Lists.{drop-replicate}
 use Rattle.bits.proofs.Strings.{neither}
 use Rattle.bits.proofs.Faults.{Clear, passed, done, Every, all, with, Numbered, first-clear}
@@ -66,22 +66,12 @@ unfolding filledTo
 over-zeros k s bytes few e = e ∙ ap (λ (l : List ℕ). s ++ l) (drop-replicate 0 (length s) k few)
 
 module _ (x : Says) where
-  pub refused-out : ¬ (firstOf (saysFaults x) ≡ 0) → layOut x .refusal ≡ firstOf (saysFaults x)
-  unfolding layOut pick
-  refused-out some = rw (ne-eqb (firstOf (saysFaults x)) 0 some) refl
+  -- the number of the first fault
+  pub laid-refusal : layOut x .refusal ≡ firstOf (saysFaults x)
+  unfolding layOut
+  laid-refusal = chosen-number (λ (l : Covered). l .refusal) (firstOf (saysFaults x)) _ _ refl refl
 
-  pub laid-none : firstOf (saysFaults x) ≡ 0 → layOut x .refusal ≡ 0
-  unfolding layOut pick
-  laid-none e = rw e refl
-
-  -- no refusal, the covered bytes' number, and they themselves first
-  pub laid-clear : layOut x .refusal ≡ 0 → firstOf (saysFaults x) ≡ 0
-  laid-clear e = go (eqb (firstOf (saysFaults x)) 0) refl
-    where
-      go : (b : Bool) → eqb (firstOf (saysFaults x)) 0 ≡ b → firstOf (saysFaults x) ≡ 0
-      go true h = eqb-true (firstOf (saysFaults x)) 0 h
-      go false h = sym (refused-out (eqb-false (firstOf (saysFaults x)) 0 h)) ∙ e
-
+  -- where there is none: the covered bytes first, and their number
   pub laid-first : firstOf (saysFaults x) ≡ 0 → take (layOut x .count) (layOut x .bytes) ≡ coveredOf x
   unfolding layOut filledTo pick
   laid-first e = rw e (take-at (coveredOf x) _ (length (coveredOf x)) refl)

@@ -4,10 +4,10 @@
 -- Assumes nothing.
 use mathlib.Core.Path.{_≡_, refl, sym, ap, ap₂, _∙_, subst}
 use mathlib.Core.List.{List, [], _∷_, _++_}
-use Prim.Native.Nat.{ℕ, zero, suc, _+_, _-_, _*_, _/_, _%_, _≤_, _<_}
+use Prim.Native.Nat.{ℕ, _+_, _-_, _*_, _/_, _%_, _≤_, _<_}
 use native.Mathlib.Omega.{arith}
-use lib.ListN.{length, drop, getD, drop-of-length-le}
-use lib.Seq.{drop-cons}
+use lib.ListN.{length, drop, getD}
+use Rattle.bits.proofs.Packed.{spread, spread-all}
 use Rattle.fields.specs.Format.{expiryRow, lotRow, amountRow, sealRow}
 use Rattle.fields.specs.Field.{twoBytes, value, endOf, fieldOf}
 use Rattle.fields.specs.Date.{digitAt, twoDigits, yearOf, monthOf, dayOf}
@@ -22,7 +22,7 @@ use Rattle.writing.proofs.ReadBack.{saysOf, in-turn, covered-back}
 
 -- ---- digits and bytes
 
--- a digit's byte, and the number of two and of four such digits
+-- two digits' bytes and the number that they give
 module _ (a b : ℕ) (wa : Within 0x30 0x39 a) (wb : Within 0x30 0x39 b) where
   two-first : digitOf ((10 * (a - 0x30) + (b - 0x30)) / 10) ≡ a
   unfolding digitOf
@@ -59,24 +59,13 @@ module _ (h l : ℕ) (few : l ≤ 99) where
   unfolding digitOf
   hundreds-last = omega arith
 
--- ---- a list of so many numbers, one by one
-
--- n of them from place i on
-abbrev ats : ℕ → ℕ → List ℕ → List ℕ
-ats i zero v = []
-ats i (suc n) v = getD v i 0 ∷ ats (suc i) n v
-
-ats-all : (n i : ℕ) (v : List ℕ) → i + n ≡ length v → drop i v ≡ ats i n v
-ats-all zero i v e = drop-of-length-le v {i = i} (omega arith)
-ats-all (suc n) i v e = drop-cons v i 0 (omega arith) ∙ ap (λ (l : List ℕ). getD v i 0 ∷ l) (ats-all n (suc i) v (omega arith))
-
 -- ---- the fields
 
 module _ (row : Row) (field : List ℕ) (ok : Formed row field) (small : row .most < 256) where
   -- a field whose value has n bytes, one by one
-  field-by-one : (n : ℕ) → row .least ≡ n → row .most ≡ n → (value field ≡ ats 0 n (value field)) × (field ≡ fieldOf row (ats 0 n (value field)) ++ drop (endOf field) field)
+  field-by-one : (n : ℕ) → row .least ≡ n → row .most ≡ n → (value field ≡ spread n 0 (value field)) × (field ≡ fieldOf row (spread n 0 (value field)) ++ drop (endOf field) field)
   field-by-one n low high =
-      let all : value field ≡ ats 0 n (value field) = ats-all n 0 (value field) (omega (arith, value-long row field ok, ok .allowed)) in
+      let all : value field ≡ spread n 0 (value field) = sym (spread-all n (value field) (omega (arith, value-long row field ok, ok .allowed))) in
       (all, field-first row field ok small ∙ ap (λ (v : List ℕ). fieldOf row v ++ drop (endOf field) field) all)
 
 -- the numbers that eight digits give
@@ -90,14 +79,14 @@ module _ (v : List ℕ) where
   abbrev ofDay : ℕ
   ofDay = 10 * (getD v 6 0 - 0x30) + (getD v 7 0 - 0x30)
 
-  eight-digits : ((i : ℕ) → i < 8 → Within 0x30 0x39 (getD v i 0)) → expiryValue ofYear ofMonth ofDay ≡ ats 0 8 v
-  unfolding expiryValue
+  eight-digits : ((i : ℕ) → i < 8 → Within 0x30 0x39 (getD v i 0)) → expiryValue ofYear ofMonth ofDay ≡ spread 8 0 v
+  unfolding expiryValue spread
   eight-digits d =
       let low = two-small (getD v 2 0) (getD v 3 0) (d 2 (omega arith)) (d 3 (omega arith)) in
       let first = hundreds-first _ _ low ∙ two-first (getD v 0 0) (getD v 1 0) (d 0 (omega arith)) (d 1 (omega arith)) in
       let second = hundreds-second _ _ low ∙ two-second (getD v 0 0) (getD v 1 0) (d 0 (omega arith)) (d 1 (omega arith)) in
-      let third = hundreds-third _ _ low ∙ two-first (getD v 2 0) (getD v 3 0) (d 2 (omega arith)) (d 3 (omega arith)) in
-      let fourth = hundreds-last _ _ low ∙ two-second (getD v 2 0) (getD v 3 0) (d 2 (omega arith)) (d 3 (omega arith)) in
+      let third = hundreds-third (10 * (getD v 0 0 - 0x30) + (getD v 1 0 - 0x30)) _ low ∙ two-first (getD v 2 0) (getD v 3 0) (d 2 (omega arith)) (d 3 (omega arith)) in
+      let fourth = hundreds-last (10 * (getD v 0 0 - 0x30) + (getD v 1 0 - 0x30)) _ low ∙ two-second (getD v 2 0) (getD v 3 0) (d 2 (omega arith)) (d 3 (omega arith)) in
       let fifth = two-first (getD v 4 0) (getD v 5 0) (d 4 (omega arith)) (d 5 (omega arith)) in
       let sixth = two-second (getD v 4 0) (getD v 5 0) (d 4 (omega arith)) (d 5 (omega arith)) in
       let seventh = two-first (getD v 6 0) (getD v 7 0) (d 6 (omega arith)) (d 7 (omega arith)) in
@@ -105,7 +94,7 @@ module _ (v : List ℕ) where
       λ i. first i ∷ second i ∷ third i ∷ fourth i ∷ fifth i ∷ sixth i ∷ seventh i ∷ eighth i ∷ []
 
 expiry-again : (s : List ℕ) → Formed expiryRow s → expiryValue (yearOf s) (monthOf s) (dayOf s) ≡ value s
-unfolding yearOf monthOf dayOf twoDigits digitAt
+unfolding yearOf monthOf dayOf twoDigits digitAt spread
 expiry-again s ok =
     let v = value s in
     let long : length v ≡ 8 = omega (arith, value-long expiryRow s ok, ok .allowed) in
@@ -126,7 +115,7 @@ four-bytes a b c d ha hb hc hd =
     λ i. first i ∷ second i ∷ third i ∷ last i ∷ []
 
 amount-again : (field : List ℕ) → Formed amountRow field → amountValue (amountOf field) ≡ value field
-unfolding amountOf twoBytes
+unfolding amountOf twoBytes spread
 amount-again field ok =
     let v = value field in
     let long : length v ≡ 4 = omega (arith, value-long amountRow field ok, ok .allowed) in
