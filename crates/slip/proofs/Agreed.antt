@@ -1,10 +1,10 @@
--- A slip does not choose its own lock (02 §2). At the shelf: a slip that was accepted names the algorithm, the padding and the number
--- of bits that were agreed, and its seal is the tag of just so many bits (`accepted-agrees`), as one with that tag is accepted
--- (`sealed-accepted`); every agreement that accepts it, under whatever keys, has these three (`one-agreement`), and it does not tell
--- whether the keys came from a master: it is accepted wherever the three and the keys in use are the same (`same-use-accepted`). A slip
--- whose fields are in order gets 25 exactly where it names something else, whatever its tag and the keys (`unmet-25`, `only-unmet-25`).
--- And so of every answer that the contract of `read` allows: `read-agrees`, `read-sealed`, `reads-one-agreement`, `read-25`,
--- `read-only-25`.
+-- A slip does not choose its own lock (02 §2). At the shelf: a slip that was accepted names the algorithm, the padding and the
+-- number of bits that were agreed, and its seal is the tag of just so many bits (`accepted-agrees`), as one with that tag is
+-- accepted (`sealed-accepted`); every agreement that accepts it, under whatever keys, has these three (`one-agreement`), and it
+-- does not tell whether the keys came from a master: it is accepted wherever the three and the keys in use are the same and no
+-- rule refuses them (`same-use-accepted`). A slip whose fields are in order gets 25 exactly where it names something else,
+-- whatever its tag and the keys (`unmet-25`, `only-unmet-25`). And so of every answer that the contract of `read` allows:
+-- `read-agrees`, `read-sealed`, `reads-one-agreement`, `read-25`, `read-only-25`.
 -- Assumes nothing.
 use mathlib.Core.Path.{_≡_, refl, sym, ap, _∙_}
 use mathlib.Core.Bool.{Bool, true, false, not}
@@ -86,7 +86,8 @@ sealed-accepted A keys s clear sound names tag =
     met-first A keys s clear (named-same A s names)
     ∙ first-append-clear (agreementFaults A keys) _ (agreement-numbered A keys) sound ∙ clear-first (passed length-right (passed (ap not (sameBytes-true _ _ tag)) done))
 
--- ---- a slip does not name a master: it is accepted under each agreement that has the three numbers and the same keys in use
+-- ---- a slip does not name a master: it is accepted under each agreement that no rule refuses and that has the three numbers and the
+-- same keys in use
 
 pub same-use-accepted : (A B : Agreement) (keys keys′ s : List ℕ) → SameUse A keys B keys′ → firstOf (agreementFaults B keys′) ≡ 0 → Accepted A keys s → Accepted B keys′ s
 unfolding sealDefined tagAt slipFaults

@@ -23,7 +23,7 @@ use Rattle.mac.specs.Padding.{Method, methodAt, blockCount}
 use Rattle.mac.specs.Tag.{bitsOf, bytesFor}
 use Rattle.mac.specs.declared.Row.{Row}
 use Rattle.mac.specs.Algorithm.{algorithmAt, row}
-use Rattle.mac.proofs.Numbers.{by-number}
+use Rattle.mac.proofs.Numbers.{least-two}
 use Rattle.mac.proofs.Padded.{padded-length, blockCount-is}
 use Rattle.mac.proofs.OneBlock.{tag-long}
 use Rattle.mac.proofs.TagBytes.{length-tagBytes}
@@ -48,10 +48,6 @@ use Rattle.slip.specs.declared.Slip.{Slip}
 
 -- ---- 7, 8 and 9 do not arise
 
--- no algorithm asks for more than two blocks
-least-two : (a : ℕ) → row (algorithmAt a) .least ≤ 2
-least-two = by-number (λ a A. row A .least ≤ 2) (λ a. omega arith) (omega arith) (omega arith) (omega arith) (omega arith) (omega arith) (omega arith) (omega arith)
-
 -- a message of n whole bytes, 17 to 1,048,576 of them
 module _ (S : Settings) (n : ℕ) (least : 17 ≤ n) (most : n ≤ 1048576) where
   length-right : lengthWrong n (8 * n) ≡ false
@@ -72,7 +68,7 @@ module _ (S : Settings) (n : ℕ) (least : 17 ≤ n) (most : n ≤ 1048576) wher
   enough-blocks =
       let q = blockCount (methodAt (S .padding)) 128 (8 * n) in
       let few = row (algorithmAt (S .algorithm)) .least in
-      rw sm4-width (le-ltb q few (omega (arith, two-blocks (methodAt (S .padding)), least-two (S .algorithm))))
+      rw sm4-width (le-ltb q few (omega (arith, two-blocks (methodAt (S .padding)), least-two (algorithmAt (S .algorithm)))))
 
   pub only-ten : (ten : Bool) → firstOf (messageFaults S n (8 * n) ten) ≡ firstOf (10 given ten ∷ [])
   unfolding messageFaults firstOf pick
@@ -91,6 +87,11 @@ seal-bits A keys s sound =
 pub seal-bytes : (A : Agreement) (keys s : List ℕ) → firstOf (agreementFaults A keys) ≡ 0 → length (sealDefined A s keys) ≡ bytesFor (A .m)
 unfolding sealDefined
 seal-bytes A keys s sound = length-tagBytes _ ∙ ap bytesFor (seal-bits A keys s sound)
+
+-- the seal and the calls hang on the covered bytes alone
+pub seal-of-covered : (A : Agreement) (keys s t : List ℕ) → covered s ≡ covered t → (sealDefined A s keys ≡ sealDefined A t keys) × (sealCalls A s keys ≡ sealCalls A t keys)
+unfolding sealDefined sealCalls
+seal-of-covered A keys s t e = (rw e refl, rw e refl)
 
 -- after the fields comes what the seal names: another agreement is 25
 pub unmet-first : (A : Agreement) (keys s : List ℕ) → firstOf (layoutFaults s) ≡ 0 → agreementUnmet A (sealField s) ≡ true → firstOf (slipFaults A keys s) ≡ 25
@@ -112,7 +113,7 @@ met-first A keys s clear met =
 abbrev coveredBits : List ℕ → ℕ
 coveredBits s = 8 * length (covered s)
 
-module _ (s : List ℕ) (ok : LaidOut s) where
+module _ (s : List ℕ) where
   pub covered-is : (at : ℕ) → at ≡ sealAt s → take at s ≡ covered s
   unfolding covered
   covered-is at e = ap (λ (k : ℕ). take k s) e
@@ -121,6 +122,21 @@ module _ (s : List ℕ) (ok : LaidOut s) where
   unfolding covered
   covered-bits at e = omega (arith, length-take (sealAt s) s, seal-there s)
 
+  module _ (A : Agreement) (keys : List ℕ) where
+    -- the check's refusals without 7, 8 and 9
+    abbrev sealTests : List Fault
+    sealTests = agreementFaults A keys ++ (10 given tagLengthWrong (A .m) (length (tagNamed s)) ∷ [])
+
+    tests-numbered : Numbered sealTests
+    tests-numbered = every-append (agreement-numbered A keys) (with refl all)
+
+    -- after the fields and what the seal names: the tests of the check, then 30
+    slip-first : firstOf (layoutFaults s) ≡ 0 → agreementUnmet A (sealField s) ≡ false → firstOf (slipFaults A keys s) ≡ firstOf (sealTests ++ (30 given sealWrong A s keys ∷ []))
+    slip-first clear met =
+        met-first A keys s clear met
+        ∙ ap firstOf (sym (append-assoc (agreementFaults A keys) (10 given tagLengthWrong (A .m) (length (tagNamed s)) ∷ []) (30 given sealWrong A s keys ∷ [])))
+
+module _ (s : List ℕ) (ok : LaidOut s) where
   -- the seal field is whole, so its first six bytes are there
   pub seal-head-there : sealAt s + 6 ≤ length s
   unfolding sealField
@@ -135,27 +151,31 @@ module _ (s : List ℕ) (ok : LaidOut s) where
       let six : sealAt s + (3 + 3) ≡ at + 6 = omega arith in
       sym (ap (drop 3) (take-all (lengthOf f) (drop 3 f) long) ∙ drop-drop 3 3 f ∙ drop-drop (3 + 3) (sealAt s) s ∙ ap (λ (k : ℕ). drop k s) six)
 
-  -- ---- from the check's answer to the slip's
+  -- a check refuses as those tests do
+  check-first : (A : Agreement) (keys : List ℕ) → firstOf (oneCallFaults A keys (length (covered s)) (coveredBits s) (tagLengthWrong (A .m) (length (tagNamed s)))) ≡ firstOf (sealTests s A keys)
+  unfolding oneCallFaults
+  check-first A keys =
+      first-same (agreementFaults A keys) _ _
+      (only-ten (settingsOf A) (length (covered s)) (omega (arith, covered-least s ok)) (omega (arith, covered-most s ok)) (tagLengthWrong (A .m) (length (tagNamed s))))
 
-  module _ (A : Agreement) (keys : List ℕ) where
-    -- the check's refusals without 7, 8 and 9
-    abbrev sealTests : List Fault
-    sealTests = agreementFaults A keys ++ (10 given tagLengthWrong (A .m) (length (tagNamed s)) ∷ [])
+-- ---- a slip that is refused
 
-    tests-numbered : Numbered sealTests
-    tests-numbered = every-append (agreement-numbered A keys) (with refl all)
+module _ (A : Agreement) (keys s : List ℕ) where
+  -- the first fault's number, and zeros
+  pub refused-by : (n : ℕ) → firstOf (slipFaults A keys s) ≡ n → (n ≡ 0 → ⊥) → refusedSlip n ≡ readOf A keys s
+  unfolding readOf pick
+  refused-by n e some = rw (e, ne-eqb n 0 some) refl
 
-    check-first : firstOf (oneCallFaults A keys (length (covered s)) (coveredBits s) (tagLengthWrong (A .m) (length (tagNamed s)))) ≡ firstOf sealTests
-    unfolding oneCallFaults
-    check-first =
-        first-same (agreementFaults A keys) _ _
-        (only-ten (settingsOf A) (length (covered s)) (omega (arith, covered-least s ok)) (omega (arith, covered-most s ok)) (tagLengthWrong (A .m) (length (tagNamed s))))
+  -- the fields were refused: so is the slip
+  pub layout-refused : (n : ℕ) → n ≡ firstOf (layoutFaults s) → (n ≡ 0 → ⊥) → refusedSlip n ≡ readOf A keys s
+  unfolding slipFaults
+  layout-refused n e some = refused-by n (first-append (layoutFaults s) _ (λ z. some (e ∙ z)) ∙ sym e) some
 
-    -- after the fields and what the seal names: the tests of the check, then 30
-    slip-first : firstOf (layoutFaults s) ≡ 0 → agreementUnmet A (sealField s) ≡ false → firstOf (slipFaults A keys s) ≡ firstOf (sealTests ++ (30 given sealWrong A s keys ∷ []))
-    slip-first clear met =
-        met-first A keys s clear met
-        ∙ ap firstOf (sym (append-assoc (agreementFaults A keys) (10 given tagLengthWrong (A .m) (length (tagNamed s)) ∷ []) (30 given sealWrong A s keys ∷ [])))
+  -- they were not, and the seal names something else than agreed
+  pub unmet-refused : firstOf (layoutFaults s) ≡ 0 → agreementUnmet A (sealField s) ≡ true → refusedSlip 25 ≡ readOf A keys s
+  unmet-refused clear unmet = refused-by 25 (unmet-first A keys s clear unmet) (λ z. absurd (omega arith))
+
+-- ---- from the check's answer to the slip's
 
 -- what the slip's answer is for each answer of the check
 unfoldable pub verdict : List ℕ → Outcome → Slip
@@ -169,22 +189,16 @@ module _ (s : List ℕ) (clear : firstOf (layoutFaults s) ≡ 0) (A : Agreement)
   ok : LaidOut s
   ok = laid-out s clear
 
-  no-first : firstOf (slipFaults A keys s) ≡ firstOf (sealTests s ok A keys ++ (30 given sealWrong A s keys ∷ []))
-  no-first = slip-first s ok A keys clear met
-
   -- the check refused: the slip is refused with the same number
-  check-refused : (n : ℕ) → n ≡ firstOf (sealTests s ok A keys) → (n ≡ 0 → ⊥) → refusedSlip n ≡ readOf A keys s
-  unfolding readOf pick
-  check-refused n e some =
-      let whole : firstOf (slipFaults A keys s) ≡ n = no-first ∙ first-append (sealTests s ok A keys) _ (λ z. some (e ∙ z)) ∙ sym e in
-      rw (whole, ne-eqb n 0 some) refl
+  check-refused : (n : ℕ) → n ≡ firstOf (sealTests s A keys) → (n ≡ 0 → ⊥) → refusedSlip n ≡ readOf A keys s
+  check-refused n e some = refused-by A keys s n (slip-first s A keys clear met ∙ first-append (sealTests s A keys) _ (λ z. some (e ∙ z)) ∙ sym e) some
 
   -- the check was made: 30 where the seal is wrong, else the slip is accepted
-  check-made : (same : Bool) → firstOf (sealTests s ok A keys) ≡ 0 → sealWrong A s keys ≡ not same
+  check-made : (same : Bool) → firstOf (sealTests s A keys) ≡ 0 → sealWrong A s keys ≡ not same
       → pick same (acceptedSlip s (sealCalls A s keys)) (refusedSlip 30) ≡ readOf A keys s
   unfolding readOf pick firstOf
   check-made same e w =
-      let whole : firstOf (slipFaults A keys s) ≡ pick (not same) 30 0 = no-first ∙ first-append-clear (sealTests s ok A keys) _ (tests-numbered s ok A keys) e ∙ ap (λ (b : Bool). pick b 30 0) w in
+      let whole : firstOf (slipFaults A keys s) ≡ pick (not same) 30 0 = slip-first s A keys clear met ∙ first-append-clear (sealTests s A keys) _ (tests-numbered s A keys) e ∙ ap (λ (b : Bool). pick b 30 0) w in
       go same whole
     where
       go : (same : Bool) → firstOf (slipFaults A keys s) ≡ pick (not same) 30 0
@@ -209,29 +223,12 @@ module _ (s : List ℕ) (clear : firstOf (layoutFaults s) ≡ 0) (A : Agreement)
   unfolding checkOf checkedBy sealDefined sealCalls
   judged = by-fault _ refl
 
--- ---- a slip that is refused before its seal is checked
-
-module _ (A : Agreement) (keys s : List ℕ) where
-  refused-by : (n : ℕ) → firstOf (slipFaults A keys s) ≡ n → (n ≡ 0 → ⊥) → refusedSlip n ≡ readOf A keys s
-  unfolding readOf pick
-  refused-by n e some = rw (e, ne-eqb n 0 some) refl
-
-  -- the fields were refused: so is the slip
-  pub layout-refused : (n : ℕ) → n ≡ firstOf (layoutFaults s) → (n ≡ 0 → ⊥) → refusedSlip n ≡ readOf A keys s
-  unfolding slipFaults
-  layout-refused n e some = refused-by n (first-append (layoutFaults s) _ (λ z. some (e ∙ z)) ∙ sym e) some
-
-  -- they were not, and the seal names something else than agreed
-  pub unmet-refused : firstOf (layoutFaults s) ≡ 0 → agreementUnmet A (sealField s) ≡ true → refusedSlip 25 ≡ readOf A keys s
-  unmet-refused clear unmet = refused-by 25 (unmet-first A keys s clear unmet) (λ z. absurd (omega arith))
-
 -- ---- a slip that is not refused
 
 pub record Believed (A : Agreement) (keys s : List ℕ) : Type 0 where
   pub fields : LaidOut s
   pub names : agreementUnmet A (sealField s) ≡ false
   pub settings : firstOf (agreementFaults A keys) ≡ 0
-  pub tag-length : tagLengthWrong (A .m) (length (tagNamed s)) ≡ false
   pub seal : sealWrong A s keys ≡ false
 
 slip-numbered : (A : Agreement) (keys s : List ℕ) → Numbered (slipFaults A keys s)
@@ -245,12 +242,16 @@ believed A keys s e =
     after-fields (laid-out s (clear-first (all .0))) (all .1)
   where
     last : LaidOut s → agreementUnmet A (sealField s) ≡ false → firstOf (agreementFaults A keys) ≡ 0 → Clear (10 given tagLengthWrong (A .m) (length (tagNamed s)) ∷ 30 given sealWrong A s keys ∷ []) → Believed A keys s
-    last ok met sound (passed e (passed f done)) = record { fields = ok; names = met; settings = sound; tag-length = e; seal = f }
+    last ok met sound (passed e (passed f done)) = record { fields = ok; names = met; settings = sound; seal = f }
 
     after-fields : LaidOut s → Clear (25 given agreementUnmet A (sealField s) ∷ sealFaultsUnder A keys s) → Believed A keys s
     after-fields ok (passed met rest) = let both = clear-append (agreementFaults A keys) _ rest in last ok met (clear-first (both .0)) (both .1)
 
 -- ---- where the lot lies
+
+pub lot-value : (s : List ℕ) → take (lengthOf (lotField s)) (drop (lotAt s + 3) s) ≡ value (lotField s)
+unfolding value lotField
+lot-value s = ap (take (lengthOf (lotField s))) (sym (drop-drop 3 (lotAt s) s))
 
 lot-in : (s : List ℕ) → LaidOut s → lotAt s + 3 + lengthOf (lotField s) ≤ length s
 unfolding lotField

@@ -9,6 +9,7 @@ pub mod OddLengths
 pub mod Borders
 pub mod Printing
 pub mod RoundTrip
+pub mod Printable
 pub mod PrintedAnswers
 pub mod EnoughPrinted
 pub mod Unique

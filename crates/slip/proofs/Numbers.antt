@@ -5,20 +5,17 @@
 -- agreements stands in Agreed.antt.
 -- Assumes nothing.
 use mathlib.Core.Path.{_≡_, refl, sym, ap, _∙_, subst}
-use mathlib.Core.Bool.{Bool, true, false}
 use mathlib.Core.List.{List, [], _∷_}
-use Prim.Native.Nat.{ℕ, zero, suc, _+_}
+use Prim.Native.Nat.{ℕ, _+_}
 use native.Mathlib.Omega.{arith}
 use lib.Dec.{eqb}
-use lib.ListN.{take}
-use lib.Seq.{drop-drop}
 use denote.Ref.{ptr, now}
 use contract.Lifetimes.{Lfts}
 use borrow.Fn.Kinds.{Dens}
-use borrow.Author.Tests.{ne-eqb}
 use Rattle.bits.specs.Choice.{pick, firstOf, oneOf}
 use Rattle.bits.specs.Once.{Allowed}
 use Rattle.bits.specs.Str.{bytesBits}
+use Rattle.bits.proofs.Choice.{pick-ap, chosen-number}
 use Rattle.bits.proofs.Faults.{all, with, every-append, unlisted}
 use Rattle.mac.proofs.OneBlock.{Apart}
 use Rattle.settings.proofs.Sound.{agreement-every}
@@ -30,7 +27,7 @@ use Rattle.fields.proofs.Laid.{layout-every, lot-place}
 use Rattle.slip.specs.Part.{seen, partOf, lotPart}
 use Rattle.slip.specs.Slip.{tagNamed, sealDefined, sealCalls, slipFaults, contentsOf, acceptedSlip, refusedSlip, readOf}
 use Rattle.slip.specs.declared.Slip.{Slip}
-use Rattle.slip.proofs.Judged.{believed}
+use Rattle.slip.proofs.Judged.{refused-by, believed, lot-value}
 use Rattle.slip.proofs.Whole.{Accepted, Whole, tag-defined, whole, equal-slips, seals-differ}
 use Rattle.slip.proofs.read.Kinds as read-k
 use Rattle.slip.proofs.read.Reads as read
@@ -44,8 +41,7 @@ unfolding readOf pick
 accepted-is A keys s e = rw e refl
 
 pub refused-is : (A : Agreement) (keys s : List ℕ) → ¬ Accepted A keys s → readOf A keys s ≡ refusedSlip (firstOf (slipFaults A keys s))
-unfolding readOf pick
-refused-is A keys s h = rw (ne-eqb (firstOf (slipFaults A keys s)) 0 h) refl
+refused-is A keys s h = sym (refused-by A keys s _ refl h)
 
 -- ---- which numbers a slip can get
 
@@ -63,22 +59,15 @@ pub never-7-8-9 : (A : Agreement) (keys s : List ℕ)
 unfolding oneOf
 never-7-8-9 A keys s = let known = slip-numbers A keys s .0 in (unlisted slipAnswers 7 refl known, (unlisted slipAnswers 8 refl known, unlisted slipAnswers 9 refl known))
 
--- ---- number and calls of the answer
-
-module _ (s : List ℕ) (calls : ℕ) where
-  chosen-number : (n : ℕ) → pick (eqb n 0) (acceptedSlip s calls) (refusedSlip n) .number ≡ n
-  unfolding pick acceptedSlip refusedSlip
-  chosen-number zero = refl
-  chosen-number (suc n) = rw (ne-eqb (suc n) 0 (λ z. absurd (omega arith))) refl
-
-  chosen-calls : (b : Bool) (n : ℕ) → pick b (acceptedSlip s calls) (refusedSlip n) .calls ≡ pick b calls 0
-  unfolding pick acceptedSlip refusedSlip
-  chosen-calls true n = refl
-  chosen-calls false n = refl
+-- ---- the number of the answer
 
 pub number-is : (A : Agreement) (keys s : List ℕ) → readOf A keys s .number ≡ firstOf (slipFaults A keys s)
-unfolding readOf
-number-is A keys s = chosen-number s _ _
+unfolding readOf acceptedSlip refusedSlip
+number-is A keys s = chosen-number (λ (r : Slip). r .number) _ _ _ refl refl
+
+-- a slip that was answered with it, where it is 0, is accepted
+pub accepted-by : (A : Agreement) (keys s : List ℕ) (n : ℕ) → n ≡ readOf A keys s .number → n ≡ 0 → Accepted A keys s
+accepted-by A keys s n e good = sym (e ∙ number-is A keys s) ∙ good
 
 pub slip-among : (A : Agreement) (keys s : List ℕ) → Among slipAnswers (readOf A keys s .number)
 slip-among A keys s = subst (Among slipAnswers) (sym (number-is A keys s)) (slip-numbers A keys s)
@@ -108,8 +97,8 @@ module _ (κs : Lfts 2) (a : Dens κs read-k.ps) (x : Reading κs a) where
   read-answers = subst (Among slipAnswers) (sym read-number) (slip-numbers (a .0) (keysRead κs a) (slipRead κs a))
 
   pub read-calls : x .result .calls ≡ pick (eqb fault 0) (sealCalls (a .0) (slipRead κs a) (keysRead κs a)) 0
-  unfolding readOf
-  read-calls = ap (λ (r : Slip). r .calls) (x .ensures) ∙ chosen-calls (slipRead κs a) _ (eqb fault 0) fault
+  unfolding readOf acceptedSlip refusedSlip
+  read-calls = ap (λ (r : Slip). r .calls) (x .ensures) ∙ pick-ap (λ (r : Slip). r .calls) (eqb fault 0) _ _
 
   -- a refused slip: its number, and zeros
   pub read-zeros : ¬ (fault ≡ 0) → x .result ≡ refusedSlip fault
@@ -149,14 +138,14 @@ module _ (κs : Lfts 2) (a : Dens κs lot-k.ps) (x : Allowed lot-k.ps lot-k.r lo
   -- an accepted slip's lot is the value of its field 02, and begins at its byte 14
   pub lot-of-accepted : Accepted (a .0) (a .1 .0 .now) (a .1 .1 .0 .now)
       → (ptr (x .result) ≡ (ptr (a .1 .1 .0) .0, 14 + ptr (a .1 .1 .0) .1)) × (now (x .result) ≡ value (lotField (a .1 .1 .0 .now)))
-  unfolding acceptedSlip contentsOf value lotField
+  unfolding acceptedSlip contentsOf
   lot-of-accepted h =
       let slip = a .1 .1 .0 in
       let s = slip .now in
       let keys = a .1 .0 .now in
       let at : lotAt s + 3 ≡ 14 = omega (arith, lot-place s (believed (a .0) keys s h .fields)) in
       let e : seen (x .result) ≡ partOf slip (lotAt s + 3) (lengthOf (lotField s)) = x .ensures ∙ ap (λ (r : Slip). lotPart slip (r .contents)) (accepted-is (a .0) keys s h) in
-      (ap (λ (r : (ℕ × ℕ) × List ℕ). r .0) e ∙ ap (λ (k : ℕ). (ptr slip .0, k + ptr slip .1)) at, ap (λ (r : (ℕ × ℕ) × List ℕ). r .1) e ∙ ap (take (lengthOf (lotField s))) (sym (drop-drop 3 (lotAt s) s)))
+      (ap (λ (r : (ℕ × ℕ) × List ℕ). r .0) e ∙ ap (λ (k : ℕ). (ptr slip .0, k + ptr slip .1)) at, ap (λ (r : (ℕ × ℕ) × List ℕ). r .1) e ∙ lot-value s)
 
   -- a refused one's is the slip's first zero bytes
   pub lot-of-refused : ¬ Accepted (a .0) (a .1 .0 .now) (a .1 .1 .0 .now) → seen (x .result) ≡ partOf (a .1 .1 .0) 0 0

@@ -33,7 +33,7 @@ use Rattle.slip.specs.declared.Slip.{Slip}
 use Rattle.slip.proofs.Gathering.{held-few, first-alone, holds}
 use Rattle.slip.proofs.Judged.{believed, layout-refused, lot-inside}
 use Rattle.slip.proofs.Whole.{Accepted, Whole, whole}
-use Rattle.slip.proofs.Numbers.{number-is, Reading, keysRead, slipRead, read-accepted}
+use Rattle.slip.proofs.Numbers.{accepted-by, Reading, keysRead, slipRead, read-accepted}
 use Rattle.slip.proofs.Enough.{first-76}
 use Rattle.slip.proofs.read.Kinds as one-k
 use Rattle.slip.proofs.lot_in.Kinds as lot-in-k
@@ -218,7 +218,7 @@ module _ (κs : Lfts 1) (a : Dens κs read-k.ps) (y : Asking κs a) where
     gathered-joined λs b x agreed keyed lent = joined-is ∙ sym (x .ensures ∙ λ i. readOf (agreed i) (keyed i) (lent i))
 
     gathered-accepted : y .result .number ≡ 0 → Accepted A keys (flatten reads)
-    gathered-accepted good = sym (ap (λ (r : Slip). r .number) joined-is ∙ number-is A keys (flatten reads)) ∙ good
+    gathered-accepted good = accepted-by A keys (flatten reads) _ (ap (λ (r : Slip). r .number) joined-is) good
 
     -- a yes stands for the whole slip
     pub gathered-whole : y .result .number ≡ 0 → Whole A keys (flatten reads)
@@ -252,7 +252,7 @@ module _ (κs : Lfts 1) (a : Dens κs read-k.ps) (y : Asking κs a) (reads : Lis
   pub gathered-short : z .result .number ≡ 0 → y .result ≡ refusedSlip 20
   gathered-short good =
       joined-is κs a y reads run
-      ∙ nothing-short (agreementAsked λs b) (keysAsked λs b) (flatten reads) (flatten more) some (sym (ap (λ (r : Slip). r .number) again-is ∙ number-is _ _ _) ∙ good) (agreementAsked κs a) (keysAsked κs a)
+      ∙ nothing-short (agreementAsked λs b) (keysAsked λs b) (flatten reads) (flatten more) some (accepted-by _ _ _ _ (ap (λ (r : Slip). r .number) again-is) good) (agreementAsked κs a) (keysAsked κs a)
 
   -- what was accepted gets 24 then
   pub gathered-long : y .result .number ≡ 0 → z .result ≡ refusedSlip 24

@@ -83,7 +83,7 @@ module _ (A : Agreement) (keys front : List ℕ) (whole : covered front ≡ fron
   unfolding settingsRefusal
   sound e = sound-size A (length keys) (inUse A keys) e
 
-  pub only-settings : (b : List ℕ) → length b ≡ 16 → firstOf (oneCallFaults A keys (length front) (8 * length front) (roomShort (A .m) (length b))) ≡ no
+  only-settings : (b : List ℕ) → length b ≡ 16 → firstOf (oneCallFaults A keys (length front) (8 * length front) (roomShort (A .m) (length b))) ≡ no
   unfolding oneCallFaults roomShort bytesFor firstOf pick
   only-settings b long = go (eqb no 0) refl
     where
@@ -124,14 +124,18 @@ module _ (A : Agreement) (keys front : List ℕ) (whole : covered front ≡ fron
         let first : firstOf (agreementFaults A keys ++ (10 given ltb (length room) (length slip) ∷ [])) ≡ suc n = first-append (agreementFaults A keys) _ (λ z. some (sym e ∙ z)) ∙ e in
         rw (ne-eqb (suc n) 0 some) (refused-by (suc n) slip (sealCalls A front keys) room some ∙ ap (λ (n : ℕ). writtenBy n slip (sealCalls A front keys) room) (sym first))
 
-    pub sealing-is : sealing A front room (makeOf A keys front (8 * length front) b .0) (makeOf A keys front (8 * length front) b .1) ≡ writeUnder A keys front room
-    unfolding makeOf
-    sealing-is = ap (λ (n : ℕ). sealing A front room (made n .0) (made n .1)) (only-settings b long) ∙ by-fault no refl
+    -- of any answer of `make`
+    module _ (r : Outcome × List ℕ) (told : r ≡ makeOf A keys front (8 * length front) b) where
+      pub sealing-is : sealing A front room (r .0) (r .1) ≡ writeUnder A keys front room
+      unfolding makeOf
+      sealing-is =
+          ap (λ (r : Outcome × List ℕ). sealing A front room (r .0) (r .1)) told
+          ∙ ap (λ (n : ℕ). sealing A front room (made n .0) (made n .1)) (only-settings b long) ∙ by-fault no refl
 
-    -- where a tag was made, nothing of 1 to 5 is there
-    pub made-sound : (calls : ℕ) → makeOf A keys front (8 * length front) b .0 ≡ Made calls → no ≡ 0
-    unfolding numberOf
-    made-sound calls e = sym (only-settings b long) ∙ sym (make-faults A keys front (8 * length front) b) ∙ ap numberOf e
+      -- where a tag was made, nothing of 1 to 5 is there
+      pub made-sound : (calls : ℕ) → r .0 ≡ Made calls → no ≡ 0
+      unfolding numberOf
+      made-sound calls e = sym (ap (λ (r : Outcome × List ℕ). numberOf (r .0)) told ∙ make-faults A keys front (8 * length front) b ∙ only-settings b long) ∙ ap numberOf e
 
 -- ---- what is to be said comes first
 

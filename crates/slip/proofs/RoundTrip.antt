@@ -1,26 +1,23 @@
 -- Printing and reading undo each other, under one agreement and the same keys. At the shelf: a slip that was printed is accepted and
 -- says what it was to say (`printed-read`); a slip that was accepted, printed again from what it says, is that slip byte for byte
--- (`read-printed`). So what can be printed and the slips that are accepted correspond one to one (`one-to-one`). Names with printed
--- speak of the definitions; those of PrintedAnswers.antt, with written, of the code's answers.
+-- (`read-printed`). So what can be printed and the slips that are accepted correspond one to one (`one-to-one`). These speak
+-- of the definitions; PrintedAnswers.antt says the same of the code's answers.
 -- Assumes nothing.
 use mathlib.Core.Path.{_≡_, refl, sym, ap, ap₂, _∙_}
 use mathlib.Core.List.{List, [], _++_, append-nil}
-use Prim.Native.Nat.{ℕ, zero, suc, _+_, _*_, _<_}
+use Prim.Native.Nat.{ℕ, zero, suc, _+_, _<_}
 use native.Mathlib.Omega.{arith}
 use lib.ListN.{length, take, drop, getD}
-use lib.Seq.{drop-drop}
 use Rattle.bits.specs.Choice.{firstOf}
-use Rattle.mac.specs.Tag.{bytesFor, tagBytes}
+use Rattle.mac.specs.Tag.{bytesFor}
 use Rattle.mac.proofs.TagBytes.{tagBytes-fit}
-use Rattle.settings.specs.InUse.{unpacked, inUse, agreementFaults}
+use Rattle.settings.specs.InUse.{inUse, agreementFaults}
 use Rattle.settings.specs.Faults.{settingsRefusal}
 use Rattle.settings.proofs.Sound.{sound-size, sound-bytes}
 use Rattle.settings.specs.declared.Agreement.{Agreement}
-use Rattle.tag.specs.OneCall.{tagAt, callsAt}
-use Rattle.settings.specs.Answers.{settingsOf}
 use Rattle.fields.specs.Format.{sealRow}
-use Rattle.fields.specs.Field.{lengthOf, value, fieldOf}
-use Rattle.fields.specs.Layout.{lotAt, lotField, sealField, covered, layoutFaults}
+use Rattle.fields.specs.Field.{value, fieldOf}
+use Rattle.fields.specs.Layout.{lotAt, sealField, covered, layoutFaults}
 use Rattle.fields.proofs.Formed.{any-byte}
 use Rattle.fields.proofs.Written.{written-value}
 use Rattle.fields.proofs.Whole.{covered-then-seal}
@@ -32,7 +29,7 @@ use Rattle.slip.specs.Slip.{sealValue, namedValues, tagNamed, sealDefine
 use Rattle.slip.specs.Printed.{sealedBy, slipOf, slipCalls}
 use Rattle.slip.specs.declared.Contents.{Contents}
 use Rattle.slip.specs.declared.Slip.{Slip}
-use Rattle.slip.proofs.Judged.{seal-bytes, Believed, believed}
+use Rattle.slip.proofs.Judged.{seal-bytes, seal-of-covered, Believed, believed, lot-value}
 use Rattle.slip.proofs.Whole.{Accepted, Names, seal-is}
 use Rattle.slip.proofs.Numbers.{accepted-is}
 use Rattle.slip.proofs.Agreed.{sealed-accepted}
@@ -65,7 +62,7 @@ module _ (A : Agreement) (keys : List ℕ) (x : Says) (ok : Writable A keys x) w
   said-well : Sayable x
   said-well = sayable x (ok .says)
 
-  pub covered-printed : covered printed ≡ coveredOf x
+  covered-printed : covered printed ≡ coveredOf x
   unfolding slipOf sealedBy
   covered-printed = covered-back x (fieldOf sealRow (sealValue A seal))
 
@@ -84,12 +81,11 @@ module _ (A : Agreement) (keys : List ℕ) (x : Says) (ok : Writable A keys x) w
 
   -- the seal that reading defines for the whole slip is the one that was made of its covered bytes
   seal-same : sealDefined A printed keys ≡ seal
-  unfolding sealDefined
-  seal-same = ap (λ (c : List ℕ). tagBytes (tagAt (settingsOf A) (inUse A keys) c (8 * length c))) (covered-printed ∙ sym (covered-all x))
+  seal-same = seal-of-covered A keys printed (coveredOf x) (covered-printed ∙ sym (covered-all x)) .0
 
   calls-same : sealCalls A printed keys ≡ slipCalls A keys x
-  unfolding sealCalls slipCalls
-  calls-same = ap (λ (c : List ℕ). callsAt (settingsOf A) (unpacked A keys) c (8 * length c)) (covered-printed ∙ sym (covered-all x))
+  unfolding slipCalls
+  calls-same = seal-of-covered A keys printed (coveredOf x) (covered-printed ∙ sym (covered-all x)) .1
 
   -- the seal has ⌈m/8⌉ bytes
   seal-long : length seal ≡ bytesFor (A .m)
@@ -114,7 +110,7 @@ module _ (A : Agreement) (keys : List ℕ) (x : Says) (ok : Writable A keys x) w
       let long = seal-long in
       layout-back x said-well (sealValue A seal) (omega (arith, long, size)) (omega (arith, long, size)) (any-byte (sealValue A seal) seal-fits)
 
-  pub accepted-printed : Accepted A keys printed
+  accepted-printed : Accepted A keys printed
   accepted-printed = sealed-accepted A keys printed layout-printed (ok .settings) names-printed (tag-printed ∙ sym seal-same)
 
   contents-printed : contentsOf printed ≡ saidSlip x 0 .contents
@@ -132,11 +128,11 @@ module _ (A : Agreement) (keys : List ℕ) (x : Says) (ok : Writable A keys x) w
 
   -- and the lot is there, byte for byte
   pub lot-printed : take (length (x .lot)) (drop 14 printed) ≡ x .lot
-  unfolding slipOf sealedBy value lotField
+  unfolding slipOf sealedBy
   lot-printed =
       let rest = fieldOf sealRow (sealValue A seal) in
       let at : lotAt printed + 3 ≡ 14 = omega (arith, lot-at-back x rest) in
-      ap₂ (λ (n k : ℕ). take n (drop k printed)) (sym (lot-length-back x rest)) (sym at) ∙ ap (take (lengthOf (lotField printed))) (sym (drop-drop 3 (lotAt printed) printed)) ∙ lot-value-back x rest
+      ap₂ (λ (n k : ℕ). take n (drop k printed)) (sym (lot-length-back x rest)) (sym at) ∙ lot-value printed ∙ lot-value-back x rest
 
 -- ---- what was read is printed again
 
@@ -152,14 +148,14 @@ module _ (A : Agreement) (keys s : List ℕ) (yes : Accepted A keys s) where
 
   -- printed from what it says, it comes out byte for byte
   pub read-printed : slipOf A keys (saysOf s) ≡ s
-  unfolding slipOf sealedBy sealDefined
+  unfolding slipOf sealedBy
   read-printed =
-      ap₂ (λ (front c : List ℕ). front ++ fieldOf sealRow (sealValue A (tagBytes (tagAt (settingsOf A) (inUse A keys) c (8 * length c))))) (covered-again s (judged .fields)) front-again
+      ap₂ (λ (front tag : List ℕ). front ++ fieldOf sealRow (sealValue A tag)) (covered-again s (judged .fields)) (seal-of-covered A keys (coveredOf (saysOf s)) s front-again .0)
       ∙ ap (λ (f : List ℕ). covered s ++ f) (sym (seal-is A keys s yes)) ∙ sym (covered-then-seal s (judged .fields))
 
   pub calls-again : slipCalls A keys (saysOf s) ≡ sealCalls A s keys
-  unfolding slipCalls sealCalls
-  calls-again = ap (λ (c : List ℕ). callsAt (settingsOf A) (unpacked A keys) c (8 * length c)) front-again
+  unfolding slipCalls
+  calls-again = seal-of-covered A keys (coveredOf (saysOf s)) s front-again .1
 
 -- ---- both at once
 

@@ -5,15 +5,13 @@
 -- `seals-differ`: two that differ, accepted under an agreement of full tags, and differ only inside one stretch of 128 covered bits,
 -- have different seals. This is demand 3 (`promised-at` of crate mac).
 -- Assumes nothing.
-use mathlib.Core.Path.{_≡_, refl, sym, ap, ap₂, _∙_, subst}
-use mathlib.Core.Bool.{Bool, true, false}
+use mathlib.Core.Path.{_≡_, sym, ap, ap₂, _∙_, subst}
 use mathlib.Core.List.{List, _∷_, _++_}
 use Prim.Native.Nat.{ℕ, _+_, _*_, _≤_, _<_}
 use native.Mathlib.Omega.{arith}
-use lib.ListN.{length, take, drop, getD, length-take, length-drop, List·getD-eq-default}
-use lib.Seq.{drop-cons, take-all, getD-take, getD-drop}
-use lib.Dec.{ltb}
-use borrow.Author.Tests.{not-false, ltb-true, ltb-false}
+use lib.ListN.{length, drop, getD, length-drop}
+use lib.Seq.{drop-cons, take-all, getD-drop}
+use borrow.Author.Tests.{not-false}
 use Rattle.bits.specs.Choice.{firstOf}
 use Rattle.bits.specs.Str.{bytesBits}
 use Rattle.bits.proofs.Same.{sameBytes-eq}
@@ -23,12 +21,13 @@ use Rattle.cipher.specs.Ciphers.{cipherAt}
 use Rattle.cipher.proofs.Laws.{sm4-width}
 use Rattle.mac.specs.Padding.{methodAt}
 use Rattle.mac.specs.Algorithm.{algorithmAt}
-use Rattle.mac.specs.Tag.{bitsOf, tagBytes}
+use Rattle.mac.specs.Tag.{bitsOf}
+use Rattle.mac.proofs.TagBytes.{take-fits}
 use Rattle.mac.proofs.OneBlock.{Apart}
 use Rattle.mac.proofs.Promised.{Promised, fullBytes, promised-at}
 use Rattle.settings.specs.InUse.{inUse}
-use Rattle.settings.specs.declared.Settings.{Settings}
 use Rattle.tag.specs.OneCall.{tagAt}
+use Rattle.tag.proofs.Full.{tagged-full}
 use Rattle.fields.specs.Format.{expiryRow, lotRow, amountRow, sealRow}
 use Rattle.fields.specs.Field.{lengthOf, value, fieldOf}
 use Rattle.fields.specs.Date.{yearOf, monthOf, dayOf}
@@ -38,7 +37,7 @@ use Rattle.fields.proofs.Dates.{Real, real-date}
 use Rattle.fields.proofs.Whole.{Bytewise, value-long, seal-alone, covered-then-seal, four-fields, slip-bytes}
 use Rattle.slip.specs.Slip.{sealValue, namedValues, agreedValues, agreementUnmet, tagNamed, sealDefined, sealWrong, slipFaults}
 use Rattle.settings.specs.declared.Agreement.{Agreement}
-use Rattle.slip.proofs.Judged.{Believed, believed}
+use Rattle.slip.proofs.Judged.{seal-of-covered, Believed, believed}
 
 -- no rule refuses the slip
 abbrev pub Accepted : Agreement → List ℕ → List ℕ → Type 0
@@ -119,25 +118,20 @@ module _ (A : Agreement) (keys s : List ℕ) (yes : Accepted A keys s) where
 
 fit-covered : (s : List ℕ) → Bytewise s → Bytewise (covered s)
 unfolding covered
-fit-covered s fit i = go (ltb i (sealAt s)) refl
-  where
-    go : (b : Bool) → ltb i (sealAt s) ≡ b → getD (take (sealAt s) s) i 0 < 256
-    go true e = subst (λ (x : ℕ). x < 256) (sym (getD-take (sealAt s) s i 0 (ltb-true i (sealAt s) e))) (fit i)
-    go false e = subst (λ (x : ℕ). x < 256) (sym (List·getD-eq-default (take (sealAt s) s) 0 (omega (arith, length-take (sealAt s) s, ltb-false i (sealAt s) e)))) (omega arith)
+fit-covered s fit = take-fits (sealAt s) s fit
 
 module _ (A : Agreement) (keys s t : List ℕ) (yes-s : Accepted A keys s) (yes-t : Accepted A keys t) where
   pub equal-slips : covered s ≡ covered t → s ≡ t
-  unfolding sealDefined
   equal-slips e =
       covered-then-seal s (good A keys s yes-s .fields)
-      ∙ ap₂ _++_ e (seal-is A keys s yes-s ∙ rw e refl ∙ sym (seal-is A keys t yes-t))
+      ∙ ap₂ _++_ e (seal-is A keys s yes-s ∙ ap (λ (v : List ℕ). fieldOf sealRow (sealValue A v)) (seal-of-covered A keys s t e .0) ∙ sym (seal-is A keys t yes-t))
       ∙ sym (covered-then-seal t (good A keys t yes-t .fields))
 
   -- a seal of full length, as demand 3 speaks of it
   full-seal : A .m ≡ 128 → (x : List ℕ) → sealDefined A x keys ≡ fullBytes (cipherAt 1) (algorithmAt (A .algorithm)) (methodAt (A .padding)) (inUse A keys) (bytesBits (covered x))
   unfolding sealDefined tagAt bitsOf
   full-seal full x =
-      ap (λ (m : ℕ). tagBytes (tagAt (record { algorithm = A .algorithm; padding = A .padding; m = m }) (inUse A keys) (covered x) (8 * length (covered x)))) (full ∙ sym sm4-width)
+      tagged-full A (full ∙ sym sm4-width) (inUse A keys) (bitsOf (covered x) (8 * length (covered x)))
       ∙ ap (fullBytes (cipherAt 1) (algorithmAt (A .algorithm)) (methodAt (A .padding)) (inUse A keys)) (take-all (8 * length (covered x)) (bytesBits (covered x)) (omega (arith, length-bytesBits (covered x))))
 
   pub seals-differ : A .m ≡ 128 → (j : ℕ) → Apart 128 j (bytesBits (covered s)) (bytesBits (covered t)) → ¬ (s ≡ t) → ¬ (tagNamed s ≡ tagNamed t)

@@ -53,7 +53,7 @@ answered c =
     let s = b .args .slip .now in
     ap (verdict s)
     (c .check .ensures
-    ∙ (λ i. checkOf (b .args .agreed) (b .args .keys .now) (covered-is s (ok b) _ (seal-is b) i) (covered-bits s (ok b) _ (seal-is b) i) ((take-rest (b .args .at .seal + 6) s ∙ tag-is s (ok b) _ (seal-is b)) i)))
+    ∙ (λ i. checkOf (b .args .agreed) (b .args .keys .now) (covered-is s _ (seal-is b) i) (covered-bits s _ (seal-is b) i) ((take-rest (b .args .at .seal + 6) s ∙ tag-is s (ok b) _ (seal-is b)) i)))
     ∙ judged s (b .pre .1) (b .args .agreed) (b .args .keys .now) (b .pre .2)
 
 add-tag-at : tie.Need-add-tag-at
@@ -80,14 +80,12 @@ contents-of-requires c κs =
 returns : tie.Need-returns
 unfolding verdict
 returns c =
-    let far = c .before .before .before .before .before .before in
-    c .refused .ensures ∙ ap (verdict (far .before .before .before .args .slip .now)) (sym (c .before .before .answer .given .1)) ∙ answered (c .before .before .before .before)
+    c .refused .ensures ∙ rw (c .before .before .answer .given .1) at (answered (c .before .before .before .before))
 
 returns-2 : tie.Need-returns-2
 unfolding verdict acceptedSlip
 returns-2 c =
-    let far = c .before .before .before .before .before .before in
-    rw (c .contents-of .ensures) (ap (verdict (far .before .before .before .args .slip .now)) (sym (c .before .before .answer2 .given .1)) ∙ answered (c .before .before .before .before))
+    rw (c .contents-of .ensures) (rw (c .before .before .answer2 .given .1) at (answered (c .before .before .before .before)))
 
 returns-3 : tie.Need-returns-3
 returns-3 c =
