@@ -1,10 +1,10 @@
--- The promises of a check in pieces through C: said of every answer that the contracts of the exported functions allow. A run of an
--- accepted start of a check, calls of any kind and a finish that is not refused ends with number 0, the definition's calls, yes 1
--- exactly where the tag given at the start is the definition's for the joined bits, and the struct closed and zero (`c-checked`,
+-- The promises of a check in pieces through C: said of every answer that the contracts of the exported functions allow. A run of
+-- an accepted start of a check, calls of any kind and a finish that is not refused ends with number 0, the definition's calls, yes
+-- 1 exactly where the tag given at the start is the definition's for the joined bits, and the struct closed and zero (`c-checked`,
 -- `c-yes-exactly`); `slipseal_check` in one call says the same (`c-same-as-one-check`). An accepted start leaves the session open
--- (`start-check-open`). A finish of the other purpose gets 11 and the very struct (`c-finish-other`, `c-check-other`), and so does any
--- call on a struct whose phase, purpose or master is none that a session has (`c-odd-piece`, `c-odd-finish`, `c-odd-check`). Expected bytes past those of the
--- agreed bits have no influence (`c-check-free`).
+-- (`c-start-check-open`). A finish of the other purpose gets 11 and the very struct (`c-finish-other`, `c-check-other`), and so
+-- does any call on a struct whose phase, purpose or master is none that a session has (`c-odd-piece`, `c-odd-finish`,
+-- `c-odd-check`). Expected bytes past those of the agreed bits have no influence (`c-check-free`).
 -- Assumes nothing.
 use mathlib.Core.Path.{_≡_, refl, sym, ap, _∙_, subst}
 use mathlib.Core.Bool.{Bool, true, false}
@@ -41,8 +41,8 @@ use Rattle.slipseal.specs.declared.Answer.{Answer}
 use Rattle.slipseal.specs.declared.Session.{Session}
 use Rattle.slipseal.specs.declared.Step.{Step}
 use Rattle.slipseal.specs.Border.{agreedOf, yesOf, toldOf, purposeFrom, inward, outward, handedOut, handedBack, finishedBack}
-use Rattle.slipseal.proofs.Crossing.{out-and-in, refused11, Odd, odd-piece, odd-finish, odd-check}
-use Rattle.slipseal.proofs.Runs.{back-answer, Pieced, Finished, FinishedCheck, judging, finish-check-number, Run, run-inward}
+use Rattle.slipseal.proofs.Crossing.{refused11, Odd, odd-piece, odd-finish, odd-check}
+use Rattle.slipseal.proofs.Runs.{out-number, out-in, back-answer, back-out, Pieced, Finished, FinishedCheck, judging, finish-check-number, Run, run-inward}
 use Rattle.slipseal.proofs.slipseal_check.Kinds as check-k
 use Rattle.slipseal.proofs.slipseal_check.Reads as check
 use Rattle.slipseal.proofs.slipseal_start_check.Kinds as start-check-k
@@ -59,21 +59,15 @@ Checking κs a = Allowed check-k.ps check-k.r check.Learnt κs a
 
 -- ---- one call
 
+-- the definition's start
+abbrev begun : (κs : Lfts 2) → Dens κs start-check-k.ps → session-step.Step
+begun κs a = startCheckOf (agreedOf (a .0)) (a .1 .0 .now) (a .1 .1 .0) (a .1 .1 .1 .0 .now)
+
 module _ (κs : Lfts 2) (a : Dens κs start-check-k.ps) (x : StartedCheck κs a) where
-  abbrev begun : session-step.Step
-  begun = startCheckOf (agreedOf (a .0)) (a .1 .0 .now) (a .1 .1 .0) (a .1 .1 .1 .0 .now)
-
-  start-check-number : x .result .answer .number ≡ numberOf (begun .answer)
-  unfolding handedOut toldOf
-  start-check-number = ap (λ (r : Step). r .answer .number) (x .ensures)
-
-  -- the record that the struct stands for
-  start-check-in : inward (x .result .session) ≡ begun .session
-  unfolding handedOut
-  start-check-in = ap (λ (r : Step). inward (r .session)) (x .ensures) ∙ out-and-in (begun .session)
-
-  pub start-check-open : x .result .answer .number ≡ 0 → Running (inward (x .result .session))
-  start-check-open u = let e = start-check-in in rw e (start-check-opens (agreedOf (a .0)) (a .1 .0 .now) (a .1 .1 .0) (a .1 .1 .1 .0 .now) (sym start-check-number ∙ u))
+  pub c-start-check-open : x .result .answer .number ≡ 0 → Running (inward (x .result .session))
+  c-start-check-open u =
+      let e = out-in (begun κs a) (x .result) (x .ensures) in
+      rw e (start-check-opens (agreedOf (a .0)) (a .1 .0 .now) (a .1 .1 .0) (a .1 .1 .1 .0 .now) (sym (out-number (begun κs a) (x .result) (x .ensures)) ∙ u))
 
 module _ (κs : Lfts 1) (a : Dens κs piece-k.ps) (x : Pieced κs a) where
   pub c-odd-piece : Odd (a .0) → x .result ≡ refused11 (a .0)
@@ -172,24 +166,19 @@ module _ (r : CheckRan) where
   ending = finishCheckOf (handed (startCheckOf agreed keyed d expecting .session) (r .acts))
 
   began : inward (r .first .result .session) ≡ startCheckOf agreed keyed d expecting .session
-  began = start-check-in (r .start-at) (r .given) (r .first)
+  began = out-in (begun (r .start-at) (r .given)) (r .first .result) (r .first .ensures)
 
   begun-so : Unrefused (startCheckOf agreed keyed d expecting .answer)
-  begun-so = sym (start-check-number (r .start-at) (r .given) (r .first)) ∙ r .accepted
+  begun-so = sym (out-number (begun (r .start-at) (r .given)) (r .first .result) (r .first .ensures)) ∙ r .accepted
 
-  at-end : judging (r .finish-at) (r .came) (r .last) ≡ ending
+  at-end : judging (r .finish-at) (r .came) ≡ ending
   at-end = ap finishCheckOf (run-inward (r .between) ∙ ap (λ (t : session.Session). handed t (r .acts)) began)
 
   judged-so : Unrefused (ending .answer)
   judged-so = ap (λ (t : session-step.Step). numberOf (t .answer)) (sym at-end) ∙ sym (finish-check-number (r .finish-at) (r .came) (r .last)) ∙ r .judged
 
-  -- what goes back where nothing is refused
-  back : (t : session-step.Step) → Unrefused (t .answer) → handedBack (r .came .0) t ≡ handedOut t
-  unfolding handedBack pick
-  back t u = rw u refl
-
   ends-so : r .last .result ≡ handedOut ending
-  ends-so = r .last .ensures ∙ ap (handedBack (r .came .0)) at-end ∙ back ending judged-so
+  ends-so = r .last .ensures ∙ ap (handedBack (r .came .0)) at-end ∙ back-out (r .came .0) ending judged-so
 
   pub c-checked : r .last .result ≡ record { answer = record { number = 0; yes = pick (sameBytes expecting (tagged agreed (inUse agreed keyed) told)) 1 0; calls = listed agreed (unpacked agreed keyed) told }; session = outward cleared }
   unfolding handedOut

@@ -11,6 +11,7 @@ use Prim.Native.Nat.{ℕ, _<_}
 use borrow.Author.Tests.{lt-ltb, ne-eqb}
 use lib.Dec.{eqb, ltb}
 use Rattle.bits.specs.Choice.{pick, firstOf}
+use Rattle.bits.proofs.Choice.{either-way}
 use Rattle.settings.specs.Answers.{numberOf, reportedCalls}
 use Rattle.session.specs.declared.Phase.{Phase}
 use Rattle.session.specs.declared.Phase.the-variants.{Closed, Edge, Part}
@@ -18,7 +19,6 @@ use Rattle.session.specs.declared.Purpose.{Purpose}
 use Rattle.session.specs.declared.Purpose.the-variants.{Making, Checking}
 use Rattle.settings.specs.declared.Agreement as settings-agreement
 use Rattle.session.specs.declared.Session as session
-use Rattle.session.specs.declared.Step as session-step
 use Rattle.session.specs.Record.{phaseUnfit, closedFaults, countsClosed}
 use Rattle.session.specs.Calls.{pieceFaults, pieceOf, endFaults, finishFaults, finishOf, finishCheckFaults, finishCheckOf}
 use Rattle.slipseal.specs.declared.Agreement.{Agreement}
@@ -114,14 +114,14 @@ in-and-out r h =
     let both = phase-same (r .phase) (r .part) (r .purpose) (r .agreement .master) (h .phase) (h .purpose) (h .master) in
     rw (both .0, both .1, purpose-kept (r .purpose) (h .purpose), master-kept (r .agreement .master) (h .master)) refl
 
--- ---- any other struct: its phase is read as closed
+-- ---- a struct whose phase is read as closed
 
 -- the answer to it: 11, no calls, and the struct itself
 abbrev pub refused11 : Session → Step
 refused11 r = record { answer = record { number = 11; yes = 0; calls = 0 }; session = r }
 
 module _ (r : Session) where
-  -- its phase and part, its purpose, or its master are none that a session has
+  -- it is read as closed: it is closed, or its phase and part, its purpose or its master are none that a session has
   abbrev pub Odd : Type 0
   Odd = phaseFrom (r .phase) (r .part) (r .purpose) (r .agreement .master) ≡ Closed
 
@@ -131,13 +131,9 @@ module _ (r : Session) where
 
   pub odd-master : 1 < r .agreement .master → Odd
   unfolding phaseFrom pick
-  odd-master h = rw (lt-ltb 1 (r .agreement .master) h) (either (ltb 1 (r .purpose)))
-    where
-      either : (b : Bool) → pick b Closed Closed ≡ Closed
-      either true = refl
-      either false = refl
+  odd-master h = rw (lt-ltb 1 (r .agreement .master) h) (either-way (λ (p : Phase). p) (ltb 1 (r .purpose)) refl refl)
 
-  pub odd-closed : Odd → countsClosed (inward r) ≡ true
+  odd-closed : Odd → countsClosed (inward r) ≡ true
   unfolding countsClosed closedFaults firstOf inward phaseUnfit pick
   odd-closed e = rw e refl
 

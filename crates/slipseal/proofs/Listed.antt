@@ -6,7 +6,6 @@ use mathlib.Core.List.{List}
 use Prim.Native.Nat.{ℕ}
 use contract.Lifetimes.{Lfts}
 use borrow.Fn.Kinds.{Dens}
-use Rattle.bits.specs.Once.{Allowed}
 use Rattle.settings.specs.Answers.{numberOf}
 use Rattle.settings.proofs.Retired.{Among}
 use Rattle.tag.proofs.Listed.{callAnswers, restoreAnswers, make-among, check-among, restore-among}
@@ -14,7 +13,8 @@ use Rattle.session.specs.declared.Step as session-step
 use Rattle.session.proofs.Listed.{startAnswers, startCheckAnswers, pieceAnswers, finishAnswers, finishCheckAnswers, start-among, start-check-among, piece-among, finish-among, finish-check-among}
 use Rattle.slip.specs.Gathering.{held}
 use Rattle.slip.proofs.Numbers.{slipAnswers, slip-among}
-use Rattle.slip.proofs.PrintedAnswers.{writeAnswers, write-answers}
+use Rattle.slip.proofs.Printable.{writeAnswers}
+use Rattle.slip.proofs.PrintedAnswers.{write-answers}
 use Rattle.slipseal.specs.declared.Answer.{Answer}
 use Rattle.slipseal.specs.declared.Session.{Session}
 use Rattle.slipseal.specs.declared.Step.{Step}

@@ -1,9 +1,10 @@
 -- A slip in odd lengths through C, said of every answer that the contracts of `slipseal_gather`, `slipseal_read_gathered` and
 -- `slipseal_read` allow: from a record of zeros, however the slip was cut, the answer is that of the reads joined, every field
--- (`c-gathered-joined`), and the lot lies in the record (`c-gathered-lot`); two ways to cut lead to one record (`c-one-record`); bytes
--- that are missing are 20, bytes too many 24 (`c-gathered-short`, `c-gathered-long`), and a yes stands for the whole slip
--- (`c-gathered-whole`); any record counts as the bytes that it holds (`c-any-record`), and what comes back has a count of 76 at most and
--- zeros past it (`c-gather-sound`). `slipseal_gather` keeps the contract of `add` word for word, so its answers are that function's.
+-- (`c-gathered-joined`), and its lot is read from the record's own bytes (`c-gathered-lot`); two ways to cut lead to one record
+-- (`c-one-record`); bytes that are missing are 20, bytes too many 24 (`c-gathered-short`, `c-gathered-long`), and a yes stands for
+-- the whole slip (`c-gathered-whole`); any record counts as the bytes that it holds (`c-any-record`), and what comes back has a
+-- count of 76 at most and zeros past it (`c-gather-sound`). `slipseal_gather` keeps the contract of `add` word for word, so its
+-- answers are that function's.
 -- Assumes nothing.
 use mathlib.Core.Path.{_≡_, refl, sym, ap, _∙_}
 use mathlib.Core.List.{List, [], _++_, flatten}
@@ -18,7 +19,7 @@ use Rattle.slip.specs.Gathering.{held, gatheredOf}
 use Rattle.slip.specs.Slip.{refusedSlip, readOf}
 use Rattle.slip.specs.declared.Gathered.{Gathered}
 use Rattle.slip.proofs.Whole.{Accepted, Whole, whole}
-use Rattle.slip.proofs.Numbers.{number-is, keysRead, slipRead}
+use Rattle.slip.proofs.Numbers.{accepted-by, keysRead, slipRead}
 use Rattle.slip.proofs.OddLengths.{Added, added-to, Sound, add-sound, read-added, read-record, lot-bytes, nothing-short, nothing-long}
 use Rattle.slipseal.specs.declared.Slip.{Slip}
 use Rattle.slipseal.specs.Border.{agreedOf, toldSlip}
@@ -84,7 +85,7 @@ module _ (κs : Lfts 1) (a : Dens κs read-k.ps) (y : Asked κs a) where
 
     accepted : y .result .number ≡ 0 → Accepted A keys (flatten reads)
     unfolding toldSlip
-    accepted good = sym (ap (λ (r : Slip). r .number) joined-is ∙ number-is A keys (flatten reads)) ∙ good
+    accepted good = accepted-by A keys (flatten reads) _ (ap (λ (r : Slip). r .number) joined-is) good
 
     -- a yes stands for the whole slip
     pub c-gathered-whole : y .result .number ≡ 0 → Whole A keys (flatten reads)
@@ -108,7 +109,7 @@ module _ (κs : Lfts 1) (a : Dens κs read-k.ps) (y : Asked κs a) (reads : List
   unfolding toldSlip
   c-gathered-short good =
       joined-is κs a y reads run
-      ∙ ap toldSlip (nothing-short (agreementAsked λs b) (keysAsked λs b) (flatten reads) (flatten more) some (sym (ap (λ (r : Slip). r .number) again-is ∙ number-is _ _ _) ∙ good) (agreementAsked κs a) (keysAsked κs a))
+      ∙ ap toldSlip (nothing-short (agreementAsked λs b) (keysAsked λs b) (flatten reads) (flatten more) some (accepted-by _ _ _ _ (ap (λ (r : Slip). r .number) again-is) good) (agreementAsked κs a) (keysAsked κs a))
 
   -- what was accepted gets 24 then
   pub c-gathered-long : y .result .number ≡ 0 → z .result ≡ toldSlip (refusedSlip 24)

@@ -1,9 +1,10 @@
 -- The promises through C: said of every answer that the contracts of the exported functions allow. Runs that check a tag stand in
 -- CheckRuns.antt. A struct goes from call to call, and the record that it stands for goes the way of the session's own record
--- (`handed-in`, `run-inward`). So a run of calls of any kind ends with the definition's tag, calls and room for the joined bits of its accepted pieces (`c-joined`); two such runs of full tags
--- (`c-runs-differ`), and two calls of `slipseal_make` (`c-make-differs`), keep demand 3; a refused call hands back the very struct and
--- leaves the room (`piece-back`, `finish-back`, `make-untouched`); an accepted start or piece leaves the session open (`start-open`,
--- `piece-open`).
+-- (`handed-in`, `run-inward`). So a run of calls of any kind ends with the definition's tag, calls and room for the joined bits of
+-- its accepted pieces (`c-joined`); two such runs of full tags (`c-runs-differ`), and two calls of `slipseal_make`
+-- (`c-make-differs`), keep demand 3; a refused call hands back the very struct and leaves the room (`c-piece-back`,
+-- `c-finish-back`, `c-finish-check-back`, `c-make-untouched`); an accepted start or piece leaves the session open (`c-start-open`,
+-- `c-piece-open`).
 -- Assumes nothing.
 use mathlib.Core.Path.{_≡_, refl, sym, ap, _∙_}
 use mathlib.Core.Bool.{Bool, true, false}
@@ -16,6 +17,7 @@ use borrow.Author.Needs.{needs}
 use borrow.Author.Tests.{ne-eqb, eqb-false}
 use borrow.Fn.Kinds.{Dens, GoodsP}
 use Rattle.bits.specs.Choice.{pick}
+use Rattle.bits.proofs.Choice.{either-way}
 use Rattle.bits.specs.Once.{Allowed}
 use Rattle.bits.specs.Str.{Bits}
 use Rattle.mac.specs.Tag.{bitsOf, bytesFor}
@@ -70,21 +72,32 @@ FinishedCheck κs a = Allowed finish-check-k.ps finish-check-k.r finish-check.Le
 abbrev pub offered : (κs : Lfts 1) → Dens κs piece-k.ps → Offered
 offered κs a = record { bytes = a .1 .0 .now; bits = a .1 .1 .0 }
 
--- ---- what is handed back
+-- ---- what is handed out, and back
+
+-- the answer's number, and the record that the struct stands for
+module _ (t : session-step.Step) (r : Step) (e : r ≡ handedOut t) where
+  pub out-number : r .answer .number ≡ numberOf (t .answer)
+  unfolding handedOut toldOf
+  out-number = ap (λ (r : Step). r .answer .number) e
+
+  pub out-in : inward (r .session) ≡ t .session
+  unfolding handedOut
+  out-in = ap (λ (r : Step). inward (r .session)) e ∙ out-and-in (t .session)
 
 module _ (came : Session) (t : session-step.Step) where
   -- the answer, refused or not
   pub back-answer : handedBack came t .answer ≡ toldOf (t .answer)
-  unfolding handedBack handedOut pick
-  back-answer = go (eqb (numberOf (t .answer)) 0)
-    where
-      go : (b : Bool) → pick b (handedOut t) (record { answer = toldOf (t .answer); session = came }) .answer ≡ toldOf (t .answer)
-      go true = refl
-      go false = refl
+  unfolding handedBack handedOut
+  back-answer = either-way (λ (r : Step). r .answer) (eqb (numberOf (t .answer)) 0) refl refl
 
   back-number : handedBack came t .answer .number ≡ numberOf (t .answer)
   unfolding toldOf
   back-number = ap (λ (r : Answer). r .number) back-answer
+
+  -- what goes back where nothing is refused
+  pub back-out : Unrefused (t .answer) → handedBack came t ≡ handedOut t
+  unfolding handedBack pick
+  back-out u = rw u refl
 
   -- what a refusal hands back
   back-came : ¬ (numberOf (t .answer) ≡ 0) → handedBack came t .session ≡ came
@@ -102,107 +115,103 @@ module _ (came : Session) (t : session-step.Step) where
 
 -- ---- one call
 
-module _ (κs : Lfts 3) (a : Dens κs make-k.ps) (x : Making κs a) where
+-- what was given, and what the definition answers
+module _ (κs : Lfts 3) (a : Dens κs make-k.ps) where
   abbrev one : settings.Outcome × List ℕ
   one = makeOf (agreedOf (a .0)) (a .1 .0 .now) (a .1 .1 .0 .now) (a .1 .1 .1 .0) (a .1 .1 .1 .1 .0 .now)
-
-  -- the room at the end
-  abbrev pub roomLeft : List ℕ
-  roomLeft = x .last .1 .1 .1 .1 .0
 
   abbrev pub bitsGiven : Bits
   bitsGiven = bitsOf (a .1 .1 .0 .now) (a .1 .1 .1 .0)
 
-  make-answer : x .result .number ≡ numberOf (one .0)
+module _ (κs : Lfts 3) (a : Dens κs make-k.ps) (x : Making κs a) where
+  -- the room at the end
+  abbrev pub roomLeft : List ℕ
+  roomLeft = x .last .1 .1 .1 .1 .0
+
+  make-answer : x .result .number ≡ numberOf (one κs a .0)
   unfolding toldMake toldOf
   make-answer = ap (λ (r : Answer × List ℕ). r .0 .number) (x .ensures)
 
-  make-left : roomLeft ≡ one .1
+  make-left : roomLeft ≡ one κs a .1
   unfolding toldMake
   make-left = ap (λ (r : Answer × List ℕ). r .1) (x .ensures)
 
-  pub make-untouched : ¬ (x .result .number ≡ 0) → roomLeft ≡ a .1 .1 .1 .1 .0 .now
-  make-untouched u = make-left ∙ ap (λ (r : settings.Outcome × List ℕ). r .1) (refused-of (agreedOf (a .0)) (a .1 .0 .now) (a .1 .1 .0 .now) (a .1 .1 .1 .0) (a .1 .1 .1 .1 .0 .now) (λ z. u (make-answer ∙ z)))
+  pub c-make-untouched : ¬ (x .result .number ≡ 0) → roomLeft ≡ a .1 .1 .1 .1 .0 .now
+  c-make-untouched u = make-left ∙ ap (λ (r : settings.Outcome × List ℕ). r .1) (refused-of (agreedOf (a .0)) (a .1 .0 .now) (a .1 .1 .0 .now) (a .1 .1 .1 .0) (a .1 .1 .1 .1 .0 .now) (λ z. u (make-answer ∙ z)))
 
-  make-made : x .result .number ≡ 0 → roomLeft ≡ tagged (agreedOf (a .0)) (inUse (agreedOf (a .0)) (a .1 .0 .now)) bitsGiven ++ drop (bytesFor (agreedOf (a .0) .m)) (a .1 .1 .1 .1 .0 .now)
+  make-made : x .result .number ≡ 0 → roomLeft ≡ tagged (agreedOf (a .0)) (inUse (agreedOf (a .0)) (a .1 .0 .now)) (bitsGiven κs a) ++ drop (bytesFor (agreedOf (a .0) .m)) (a .1 .1 .1 .1 .0 .now)
   make-made u = make-left ∙ ap (λ (r : settings.Outcome × List ℕ). r .1) (made-of (agreedOf (a .0)) (a .1 .0 .now) (a .1 .1 .0 .now) (a .1 .1 .1 .0) (a .1 .1 .1 .1 .0 .now) (sym make-answer ∙ u))
 
 module _ (κs : Lfts 3) (a : Dens κs make-k.ps) (x : Making κs a) (λs : Lfts 3) (b : Dens λs make-k.ps) (y : Making λs b) where
   pub c-make-differs : SameUse (agreedOf (a .0)) (a .1 .0 .now) (agreedOf (b .0)) (b .1 .0 .now) → a .0 .m ≡ n → x .result .number ≡ 0 → y .result .number ≡ 0
-      → (j : ℕ) → Apart n j (bitsGiven κs a x) (bitsGiven λs b y) → ¬ (bitsGiven κs a x ≡ bitsGiven λs b y) → ¬ (take size (roomLeft κs a x) ≡ take size (roomLeft λs b y))
+      → (j : ℕ) → Apart n j (bitsGiven κs a) (bitsGiven λs b) → ¬ (bitsGiven κs a ≡ bitsGiven λs b) → ¬ (take size (roomLeft κs a x) ≡ take size (roomLeft λs b y))
   unfolding agreedOf
   c-make-differs same full ux uy j h ne e =
       full-differ (agreedOf (a .0)) full (inUse (agreedOf (a .0)) (a .1 .0 .now)) j _ _ h ne _ _
       (ap (take size) (sym (make-made κs a x ux)) ∙ e
-      ∙ ap (take size) (make-made λs b y uy ∙ ap (λ (w : List ℕ). w ++ drop (bytesFor (b .0 .m)) (b .1 .1 .1 .1 .0 .now)) (sym (tagged-same (agreedOf (a .0)) (agreedOf (b .0)) (a .1 .0 .now) (b .1 .0 .now) same (bitsGiven λs b y)))))
+      ∙ ap (take size) (make-made λs b y uy ∙ ap (λ (w : List ℕ). w ++ drop (bytesFor (b .0 .m)) (b .1 .1 .1 .1 .0 .now)) (sym (tagged-same (agreedOf (a .0)) (agreedOf (b .0)) (a .1 .0 .now) (b .1 .0 .now) same (bitsGiven λs b)))))
+
+-- the definition's start, piece and finishes
+abbrev begun : (κs : Lfts 1) → Dens κs start-k.ps → session-step.Step
+begun κs a = startOf (agreedOf (a .0)) (a .1 .0 .now) (a .1 .1 .0)
+
+abbrev fed : (κs : Lfts 1) → Dens κs piece-k.ps → session-step.Step
+fed κs a = pieceOf (inward (a .0)) (a .1 .0 .now) (a .1 .1 .0)
+
+abbrev closing : (κs : Lfts 1) → Dens κs finish-k.ps → session-step.Step × List ℕ
+closing κs a = finishOf (inward (a .0)) (a .1 .0 .now)
+
+abbrev pub judging : (κs : Lfts 0) → Dens κs finish-check-k.ps → session-step.Step
+judging κs a = finishCheckOf (inward (a .0))
 
 module _ (κs : Lfts 1) (a : Dens κs start-k.ps) (x : Started κs a) where
-  abbrev begun : session-step.Step
-  begun = startOf (agreedOf (a .0)) (a .1 .0 .now) (a .1 .1 .0)
-
-  start-number : x .result .answer .number ≡ numberOf (begun .answer)
-  unfolding handedOut toldOf
-  start-number = ap (λ (r : Step). r .answer .number) (x .ensures)
-
-  -- the record that the struct stands for
-  start-in : inward (x .result .session) ≡ begun .session
-  unfolding handedOut
-  start-in = ap (λ (r : Step). inward (r .session)) (x .ensures) ∙ out-and-in (begun .session)
-
-  pub start-open : x .result .answer .number ≡ 0 → Running (inward (x .result .session))
-  start-open u = let e = start-in in rw e (start-opens (agreedOf (a .0)) (a .1 .0 .now) (a .1 .1 .0) (sym start-number ∙ u))
+  pub c-start-open : x .result .answer .number ≡ 0 → Running (inward (x .result .session))
+  c-start-open u =
+      let e = out-in (begun κs a) (x .result) (x .ensures) in
+      rw e (start-opens (agreedOf (a .0)) (a .1 .0 .now) (a .1 .1 .0) (sym (out-number (begun κs a) (x .result) (x .ensures)) ∙ u))
 
 module _ (κs : Lfts 1) (a : Dens κs piece-k.ps) (x : Pieced κs a) where
-  abbrev fed : session-step.Step
-  fed = pieceOf (inward (a .0)) (a .1 .0 .now) (a .1 .1 .0)
+  piece-number : x .result .answer .number ≡ numberOf (fed κs a .answer)
+  piece-number = ap (λ (r : Step). r .answer .number) (x .ensures) ∙ back-number (a .0) (fed κs a)
 
-  piece-number : x .result .answer .number ≡ numberOf (fed .answer)
-  piece-number = ap (λ (r : Step). r .answer .number) (x .ensures) ∙ back-number (a .0) fed
+  pub c-piece-back : ¬ (x .result .answer .number ≡ 0) → x .result .session ≡ a .0
+  c-piece-back u = ap (λ (r : Step). r .session) (x .ensures) ∙ back-came (a .0) (fed κs a) (λ z. u (piece-number ∙ z))
 
-  pub piece-back : ¬ (x .result .answer .number ≡ 0) → x .result .session ≡ a .0
-  piece-back u = ap (λ (r : Step). r .session) (x .ensures) ∙ back-came (a .0) fed (λ z. u (piece-number ∙ z))
+  piece-in : inward (x .result .session) ≡ fed κs a .session
+  piece-in = ap (λ (r : Step). inward (r .session)) (x .ensures) ∙ handed-in (a .0) (fed κs a) (λ u. refused-piece (inward (a .0)) (offered κs a) u)
 
-  piece-in : inward (x .result .session) ≡ fed .session
-  piece-in = ap (λ (r : Step). inward (r .session)) (x .ensures) ∙ handed-in (a .0) fed (λ u. refused-piece (inward (a .0)) (offered κs a) u)
-
-  pub piece-open : GoodsP κs piece-k.ps a → x .result .answer .number ≡ 0 → Running (inward (x .result .session))
+  pub c-piece-open : GoodsP κs piece-k.ps a → x .result .answer .number ≡ 0 → Running (inward (x .result .session))
   unfolding inward
-  piece-open good u =
+  c-piece-open good u =
       let wide : (length (a .0 .chain) ≡ 16) × (length (a .0 .held) ≡ 16) = search needs in
       let e = piece-in in
       rw e (piece-opens (inward (a .0)) (wide .0) (wide .1) (offered κs a) (sym piece-number ∙ u))
 
 module _ (κs : Lfts 1) (a : Dens κs finish-k.ps) (x : Finished κs a) where
-  abbrev closing : session-step.Step × List ℕ
-  closing = finishOf (inward (a .0)) (a .1 .0 .now)
-
-  finish-is : (x .result ≡ handedBack (a .0) (closing .0)) × (x .last .1 .0 ≡ closing .1)
+  finish-is : (x .result ≡ handedBack (a .0) (closing κs a .0)) × (x .last .1 .0 ≡ closing κs a .1)
   unfolding finishedBack
   finish-is = (ap (λ (r : Step × List ℕ). r .0) (x .ensures), ap (λ (r : Step × List ℕ). r .1) (x .ensures))
 
-  finish-number : x .result .answer .number ≡ numberOf (closing .0 .answer)
-  finish-number = ap (λ (r : Step). r .answer .number) (finish-is .0) ∙ back-number (a .0) (closing .0)
+  finish-number : x .result .answer .number ≡ numberOf (closing κs a .0 .answer)
+  finish-number = ap (λ (r : Step). r .answer .number) (finish-is .0) ∙ back-number (a .0) (closing κs a .0)
 
-  pub finish-back : ¬ (x .result .answer .number ≡ 0) → (x .result .session ≡ a .0) × (x .last .1 .0 ≡ a .1 .0 .now)
-  finish-back u =
-      let refused : ¬ (numberOf (closing .0 .answer) ≡ 0) = λ z. u (finish-number ∙ z) in
-      (ap (λ (r : Step). r .session) (finish-is .0) ∙ back-came (a .0) (closing .0) refused, finish-is .1 ∙ refused-finish (inward (a .0)) (a .1 .0 .now) refused .1)
+  pub c-finish-back : ¬ (x .result .answer .number ≡ 0) → (x .result .session ≡ a .0) × (x .last .1 .0 ≡ a .1 .0 .now)
+  c-finish-back u =
+      let refused : ¬ (numberOf (closing κs a .0 .answer) ≡ 0) = λ z. u (finish-number ∙ z) in
+      (ap (λ (r : Step). r .session) (finish-is .0) ∙ back-came (a .0) (closing κs a .0) refused, finish-is .1 ∙ refused-finish (inward (a .0)) (a .1 .0 .now) refused .1)
 
-  finish-in : inward (x .result .session) ≡ closing .0 .session
-  finish-in = ap (λ (r : Step). inward (r .session)) (finish-is .0) ∙ handed-in (a .0) (closing .0) (λ u. refused-finish (inward (a .0)) (a .1 .0 .now) u .0)
+  finish-in : inward (x .result .session) ≡ closing κs a .0 .session
+  finish-in = ap (λ (r : Step). inward (r .session)) (finish-is .0) ∙ handed-in (a .0) (closing κs a .0) (λ u. refused-finish (inward (a .0)) (a .1 .0 .now) u .0)
 
 module _ (κs : Lfts 0) (a : Dens κs finish-check-k.ps) (x : FinishedCheck κs a) where
-  abbrev pub judging : session-step.Step
-  judging = finishCheckOf (inward (a .0))
+  pub finish-check-number : x .result .answer .number ≡ numberOf (judging κs a .answer)
+  finish-check-number = ap (λ (r : Step). r .answer .number) (x .ensures) ∙ back-number (a .0) (judging κs a)
 
-  pub finish-check-number : x .result .answer .number ≡ numberOf (judging .answer)
-  finish-check-number = ap (λ (r : Step). r .answer .number) (x .ensures) ∙ back-number (a .0) judging
+  pub c-finish-check-back : ¬ (x .result .answer .number ≡ 0) → x .result .session ≡ a .0
+  c-finish-check-back u = ap (λ (r : Step). r .session) (x .ensures) ∙ back-came (a .0) (judging κs a) (λ z. u (finish-check-number ∙ z))
 
-  pub finish-check-back : ¬ (x .result .answer .number ≡ 0) → x .result .session ≡ a .0
-  finish-check-back u = ap (λ (r : Step). r .session) (x .ensures) ∙ back-came (a .0) judging (λ z. u (finish-check-number ∙ z))
-
-  finish-check-in : inward (x .result .session) ≡ judging .session
-  finish-check-in = ap (λ (r : Step). inward (r .session)) (x .ensures) ∙ handed-in (a .0) judging (refused-check (inward (a .0)))
+  finish-check-in : inward (x .result .session) ≡ judging κs a .session
+  finish-check-in = ap (λ (r : Step). inward (r .session)) (x .ensures) ∙ handed-in (a .0) (judging κs a) (refused-check (inward (a .0)))
 
 -- ---- calls one after the other
 
@@ -257,13 +266,14 @@ module _ (r : Ran) where
   c-joined =
       let room = r .came .1 .0 .now in
       let d = r .given .1 .1 .0 in
-      let began = start-in (r .start-at) (r .given) (r .first) in
+      let first = begun (r .start-at) (r .given) in
+      let began = out-in first (r .first .result) (r .first .ensures) in
       let at-end : inward (r .came .0) ≡ handed (startOf agreed keyed d .session) (r .acts) = run-inward (r .between) ∙ ap (λ (t : session.Session). handed t (r .acts)) began in
       let made-so : Unrefused (finishOf (handed (startOf agreed keyed d .session) (r .acts)) room .0 .answer) =
       ap (λ (t : session.Session). numberOf (finishOf t room .0 .answer)) (sym at-end) ∙ sym (finish-number (r .finish-at) (r .came) (r .last)) ∙ r .made in
       r .last .ensures
       ∙ ap (λ (t : session.Session). finishedBack (r .came .0) (finishOf t room)) at-end
-      ∙ ap (finishedBack (r .came .0)) (joined-bits agreed keyed d (sym (start-number (r .start-at) (r .given) (r .first)) ∙ r .accepted) (r .acts) room made-so)
+      ∙ ap (finishedBack (r .came .0)) (joined-bits agreed keyed d (sym (out-number first (r .first .result) (r .first .ensures)) ∙ r .accepted) (r .acts) room made-so)
       ∙ ap (λ (t : session.Session). finishedBack (r .came .0) (ending (madeOf agreed keyed (joined (gathered t (r .acts))) room))) (sym began)
 
 -- ---- demand 3 over two runs

@@ -1,7 +1,7 @@
 -- Slips through C, said of every answer that the contracts of `slipseal_write` and `slipseal_read` allow: what was written is read
 -- back under the same agreement and keys (`c-written-read`, `c-written-lot`), and an accepted slip written again from what was read is
 -- that slip (`c-read-written`); an accepted slip names what was agreed (`c-read-agrees`); a refused call leaves the room
--- (`write-untouched`).
+-- (`c-write-untouched`).
 -- Assumes nothing.
 use mathlib.Core.Path.{_≡_, sym, ap, _∙_, subst}
 use mathlib.Core.List.{List}
@@ -14,10 +14,10 @@ use Rattle.settings.specs.declared.Agreement.{Agreement}
 use Rattle.slip.specs.declared.Contents.{Contents}
 use Rattle.slip.proofs.Whole.{Accepted}
 use Rattle.slip.proofs.RoundTrip.{saidSlip}
-use Rattle.slip.proofs.Numbers.{number-is, keysRead, slipRead}
+use Rattle.slip.proofs.Numbers.{accepted-by, keysRead, slipRead}
 use Rattle.slip.proofs.Agreed.{Agrees, accepted-agrees}
-use Rattle.slip.proofs.PrintedAnswers.{keysGiven, saysGiven, roomGiven, roomLeft, unwrittenOf, writtenAs, write-number, reads-back, lot-back, Again, writes-again}
-use Rattle.slip.proofs.PrintedAnswers as slip-answers
+use Rattle.slip.proofs.Printable.{unwrittenOf, writtenAs}
+use Rattle.slip.proofs.PrintedAnswers.{keysGiven, saysGiven, roomGiven, roomLeft, write-number, write-untouched, reads-back, lot-back, Again, writes-again}
 use Rattle.slip.proofs.write.Kinds as slip-write
 use Rattle.slipseal.specs.declared.Slip.{Slip}
 use Rattle.slipseal.specs.Border.{agreedOf, toldSlip}
@@ -29,7 +29,7 @@ use Rattle.slipseal.proofs.slipseal_write.Kinds as write-k
 abbrev pub Read : (κs : Lfts 2) → Dens κs read-k.ps → Type 0
 Read κs a = Allowed read-k.ps read-k.r read.Learnt κs a
 
--- what was read, as `slip::write` is given it
+-- what was read, as `slip::read` tells it
 abbrev pub contentsIn : Slip → Contents
 contentsIn r = record { year = r .year; month = r .month; day = r .day; amount = r .amount; «lot_at» = r .«lot_at»; «lot_len» = r .«lot_len» }
 
@@ -42,8 +42,8 @@ module _ (κs : Lfts 3) (a : Dens κs write-k.ps) (x : Written κs a) where
   left = roomLeft κs w (asWritten κs a x)
 
   -- a refused call: its number and zeros, and the room as it was
-  pub write-untouched : ¬ (x .result .number ≡ 0) → (x .result, left) ≡ unwrittenOf (x .result .number) (roomGiven κs w)
-  write-untouched some = slip-answers.write-untouched κs w (asWritten κs a x) some ∙ ap (λ (n : ℕ). unwrittenOf n (roomGiven κs w)) (sym (write-number κs w (asWritten κs a x)))
+  pub c-write-untouched : ¬ (x .result .number ≡ 0) → (x .result, left) ≡ unwrittenOf (x .result .number) (roomGiven κs w)
+  c-write-untouched some = write-untouched κs w (asWritten κs a x) some ∙ ap (λ (n : ℕ). unwrittenOf n (roomGiven κs w)) (sym (write-number κs w (asWritten κs a x)))
 
   -- what was written is read back under the same agreement and keys
   module _ (good : x .result .number ≡ 0) (λs : Lfts 2) (b : Dens λs read-k.ps) (y : Read λs b)
@@ -70,7 +70,7 @@ module _ (λs : Lfts 2) (b : Dens λs read-k.ps) (y : Read λs b) (good : y .res
 
   c-accepted : Accepted A keys slip
   unfolding toldSlip
-  c-accepted = sym (ap (λ (r : Slip). r .number) (y .ensures) ∙ number-is A keys slip) ∙ good
+  c-accepted = accepted-by A keys slip _ (ap (λ (r : Slip). r .number) (y .ensures)) good
 
   -- an accepted slip names what was agreed, and its seal has so many bits
   pub c-read-agrees : Agrees A keys slip

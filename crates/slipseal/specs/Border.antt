@@ -40,7 +40,7 @@ agreedBack A = record { algorithm = A .algorithm; padding = A .padding; m = A .m
 
 -- ---- answers
 
--- 1 for a made tag, a good finish and a checked yes
+-- 1 for a tag made and for a tag checked to be right, in one call or at a finish; else 0
 unfoldable pub yesOf : settings.Outcome → ℕ
 yesOf Accepted = 0
 yesOf (Made calls) = 1

@@ -19,7 +19,7 @@ pub struct Agreement {
     pub master: usize,
 }
 
-// number: 0, or the refusal's. yes: 1 for a made tag, a good finish and a checked yes, else 0.
+// number: 0, or the refusal's. yes: 1 for a tag made and for a tag checked to be right, in one call or at a finish; else 0.
 #[repr(C)]
 pub struct Answer {
     pub number: usize,

@@ -10,7 +10,7 @@ returns : tie.Need-returns
 unfolding inward
 returns c =
     let at = c .before .before .before .before in
-    rw (at .agreed .ensures, at .before .purpose-from .ensures, at .before .before .phase-from .ensures) refl
+    rw (at .agreed .ensures, at .before .purpose-from .ensures, at .before .before .phase-from .ensures) (refl {a = inward (at .before .before .before .before .args .came)})
 
 pub session-from-spec : {M : Type 1} → statement M
 session-from-spec = tie.close (tie.spec (λ c κs. search needs) (λ c κs. search needs) (λ c κs. search needs) returns)
