@@ -32,7 +32,7 @@ use Rattle.fields.specs.Format.{expiryRow, lotRow, amountRow, sealRow}
 use Rattle.fields.specs.Field.{lengthOf, value, fieldOf}
 use Rattle.fields.specs.Date.{yearOf, monthOf, dayOf}
 use Rattle.fields.specs.Layout.{sealAt, lotField, amountField, sealField, covered, amountOf}
-use Rattle.fields.proofs.Formed.{Within, within-all, end-whole}
+use Rattle.fields.proofs.Formed.{Within, within, within-all, end-whole}
 use Rattle.fields.proofs.Dates.{Real, real-date}
 use Rattle.fields.proofs.Whole.{Bytewise, value-long, seal-alone, covered-then-seal, four-fields, slip-bytes}
 use Rattle.slip.specs.Slip.{sealValue, namedValues, agreedValues, agreementUnmet, tagNamed, sealDefined, sealWrong, slipFaults}
@@ -111,7 +111,7 @@ module _ (A : Agreement) (keys s : List ℕ) (yes : Accepted A keys s) where
     lot-length = subst (Within 1 32) (sym (value-long lotRow (lotField s) (good .fields .lot))) (good .fields .lot .allowed);
     visible = within-all 0x21 0x7e (value (lotField s)) (good .fields .lot .bytes);
     amount-length = omega (arith, value-long amountRow (amountField s) (good .fields .amount), good .fields .amount .allowed .low, good .fields .amount .allowed .high);
-    microlitres = good .fields .microlitres;
+    microlitres = within 1 1000000 _ (good .fields .microlitres);
   }
 
 -- ---- two slips under the same keys

@@ -13,7 +13,7 @@ use Rattle.fields.specs.Field.{twoBytes, value, endOf, fieldOf}
 use Rattle.fields.specs.Date.{digitAt, twoDigits, yearOf, monthOf, dayOf}
 use Rattle.fields.specs.Layout.{lotField, amountField, sealField, covered, amountOf}
 use Rattle.fields.specs.declared.Row.{Row}
-use Rattle.fields.proofs.Formed.{Within, Formed, within-all}
+use Rattle.fields.proofs.Formed.{Within, within, Formed, within-all}
 use Rattle.fields.proofs.Laid.{LaidOut}
 use Rattle.fields.proofs.Whole.{value-long, field-first, four-fields}
 use Rattle.writing.specs.Writing.{digitOf, expiryValue, amountValue, coveredOf}
@@ -132,7 +132,7 @@ module _ (s : List ℕ) (ok : LaidOut s) where
   sayable-again = record {
     lot-length = subst (Within 1 32) (sym (value-long lotRow (lotField s) (ok .lot))) (ok .lot .allowed);
     lot-bytes = ok .lot .bytes;
-    microlitres = ok .microlitres;
+    microlitres = within 1 1000000 _ (ok .microlitres);
     date = ok .date;
   }
 
