@@ -203,7 +203,7 @@ fn first_through(
     advance(t, k, begun, value, &b)
 }
 
-// Bits that have to wait, after others that wait: the part that they are is copied, and only because it waits in the record.
+// Bits after others that wait, then zeros: the part that they are is copied, for it waits in a hold, or the padding stands after it.
 fn waiting_block(held: [u8; 16], waits: usize, bytes: &[u8], bits: usize) -> [u8; 16]
     requires { ⌜ (waits + bits ≤ storage) × (bits ≤ 8 * length (now bytes)) × (0 < bits → waits % 8 ≡ 0) ⌝ }
     ensures { λ v. ⌜ bytesBits v ≡ filledBlock (take waits (bytesBits held) ++ take bits (bytesBits (now (bytes .entry)))) ⌝ }
