@@ -15,7 +15,7 @@ use Rattle.mac.specs.Tag.{bitsOf}
 use Rattle.mac.proofs.OneBlock.{Apart}
 use Rattle.mac.proofs.TagBytes.{length-bitsOf}
 use Rattle.tag.specs.Restore.{withBlock}
-use Rattle.tag.proofs.Full.{n, size, eights}
+use Rattle.tag.proofs.Full.{n, size, full-eights}
 use Rattle.tag.proofs.OneBlockMade.{length-withBlock}
 
 -- two messages with the same bytes outside block j
@@ -34,7 +34,7 @@ bits-outside j l x y h le fits = record {
 }
   where
     front : (z : List ℕ) → take (j * n) (take l (bytesBits z)) ≡ bytesBits (take (j * size) z)
-    front z = take-take (j * n) l (bytesBits z) (omega (arith, suc-mul j n)) ∙ ap (λ (k : ℕ). take k (bytesBits z)) (sym (eights j)) ∙ sym (bytesBits-take (j * size) z)
+    front z = take-take (j * n) l (bytesBits z) (omega (arith, suc-mul j n)) ∙ ap (λ (k : ℕ). take k (bytesBits z)) (sym (full-eights j)) ∙ sym (bytesBits-take (j * size) z)
 
     all : l ≡ suc j * n + (l - suc j * n)
     all = omega arith
@@ -42,13 +42,13 @@ bits-outside j l x y h le fits = record {
     back : (z : List ℕ) → drop (suc j * n) (take l (bytesBits z)) ≡ take (l - suc j * n) (bytesBits (drop (suc j * size) z))
     back z =
         ap (λ (k : ℕ). drop (suc j * n) (take k (bytesBits z))) all ∙ drop-take (suc j * n) (l - suc j * n) (bytesBits z)
-        ∙ ap (take (l - suc j * n)) (ap (λ (k : ℕ). drop k (bytesBits z)) (sym (eights (suc j))) ∙ sym (bytesBits-drop (suc j * size) z))
+        ∙ ap (take (l - suc j * n)) (ap (λ (k : ℕ). drop k (bytesBits z)) (sym (full-eights (suc j))) ∙ sym (bytesBits-drop (suc j * size) z))
 
 -- ---- other bytes in the block
 
 module _ (j l : ℕ) (x : List ℕ) (fits : suc j * n ≤ l) (long : l ≤ 8 * length x) where
   inside : j * size + size ≤ length x
-  inside = omega (arith, eights (suc j), suc-mul j size)
+  inside = omega (arith, full-eights (suc j), suc-mul j size)
 
   before-long : length (take (j * size) x) ≡ j * size
   before-long = length-take-le (j * size) x (omega (arith, inside))

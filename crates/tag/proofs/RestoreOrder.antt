@@ -20,7 +20,7 @@ use Rattle.settings.specs.Answers.{settingsOf}
 use Rattle.settings.specs.declared.Agreement.{Agreement}
 use Rattle.message.specs.Faults.{lengthWrong, tooManyBits, tooFewBlocks, tagLengthWrong, messageFaults, noSuchBlock}
 use Rattle.tag.specs.OneCall.{oneCallFaults}
-use Rattle.tag.specs.Restore.{fullOnly, restoreFaults}
+use Rattle.tag.specs.Restore.{bitless, fullOnly, restoreFaults}
 use Rattle.tag.proofs.Full.{n}
 
 too-long : sizeWrong 7 128 ≡ true
@@ -49,7 +49,7 @@ module _ (A : Agreement) (s : List ℕ) (c l j t : ℕ) where
   abbrev two : Bool
   two = paddingWrong (A .algorithm) (A .padding)
 
-  abbrev pub three : Bool
+  abbrev three : Bool
   three = sizeWrong (A .algorithm) (A .m) || not (eqb (A .m) n)
 
   -- as when checking, then 41
@@ -58,11 +58,11 @@ module _ (A : Agreement) (s : List ℕ) (c l j t : ℕ) where
 
   pub order-full : A .m ≡ n → restoreFaults A s c l j t ≡ thenBlock A
   unfolding restoreFaults fullOnly pick
-  order-full e = ap (λ (b : Bool). thenBlock (pick b A (record { algorithm = A .algorithm; padding = A .padding; m = 0; master = A .master }))) (eq-eqb (A .m) n e)
+  order-full e = ap (λ (b : Bool). thenBlock (pick b A (bitless A))) (eq-eqb (A .m) n e)
 
   pub order-not-full : ¬ (A .m ≡ n) → firstOf (restoreFaults A s c l j t) ≡ firstOf (1 given algorithmWrong (A .algorithm) ∷ 2 given paddingWrong (A .algorithm) (A .padding) ∷ 3 given true ∷ [])
   unfolding restoreFaults fullOnly oneCallFaults settingsFaults sizeWrong firstOf pick
-  order-not-full h = ap (λ (b : Bool). firstOf (thenBlock (pick b A (record { algorithm = A .algorithm; padding = A .padding; m = 0; master = A .master })))) (ne-eqb (A .m) n h)
+  order-not-full h = ap (λ (b : Bool). firstOf (thenBlock (pick b A (bitless A)))) (ne-eqb (A .m) n h)
 
   order-whole : A .m ≡ n → firstOf (restoreFaults A s c l j t) ≡ firstOf (inOrder one two three)
   unfolding oneCallFaults settingsFaults messageFaults

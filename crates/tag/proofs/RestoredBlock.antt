@@ -12,22 +12,22 @@ use native.Mathlib.Omega.{arith}
 use lib.Dec.{eqb}
 use lib.ListN.{length, drop, getD}
 use lib.Seq.{getD-drop}
-use borrow.Author.Tests.{eqb-true, eqb-false, eq-eqb, ne-eqb, ltb-false, le-ltb, not-false}
+use borrow.Author.Tests.{eqb-true, eqb-false, eq-eqb, ne-eqb, ltb-false, le-ltb}
 use Rattle.bits.specs.Choice.{pick, Fault, firstOf}
 use Rattle.bits.specs.Str.{Bits, bytesBits}
+use Rattle.bits.proofs.Choice.{pick-ap, chosen-number}
 use Rattle.bits.proofs.Faults.{first-append-clear, first-front}
 use Rattle.bits.proofs.Packed.{length-bytesBits, bytesBits-inj}
 use Rattle.cipher.specs.Cipher.{Cipher}
 use Rattle.cipher.specs.Ciphers.{cipherAt}
-use Rattle.cipher.proofs.Laws.{lawful-at, width-at}
+use Rattle.cipher.proofs.Laws.{lawful-at}
 use Rattle.mac.specs.Padding.{methodAt}
 use Rattle.mac.specs.Algorithm.{algorithmAt}
 use Rattle.mac.specs.Tag.{bitsOf, bytesFor, tagBytes}
 use Rattle.mac.proofs.OneBlock.{refilled, full, tag-long}
 use Rattle.mac.proofs.TagBytes.{take-fits, length-tagBytes, tagBytes-fit, tagBytes-bytesBits, length-bitsOf}
 use Rattle.mac.proofs.Lost.{lost-long, lost-fits, lost-only, lost-same}
-use Rattle.settings.specs.InUse.{unpacked, inUse, agreementFaults}
-use Rattle.settings.specs.Faults.{settingsRefusal}
+use Rattle.settings.specs.InUse.{unpacked, inUse}
 use Rattle.settings.specs.Answers.{settingsOf}
 use Rattle.settings.specs.declared.Agreement.{Agreement}
 use Rattle.settings.specs.declared.Outcome.the-variants.{Yes}
@@ -38,13 +38,13 @@ use Rattle.tag.specs.declared.Restored.{Restored}
 use Rattle.tag.specs.declared.Restored.the-variants.{Filled, Refused}
 use Rattle.tag.specs.OneCall.{oneCallFaults, checkOf}
 use Rattle.tag.specs.Restore.{fullOnly, restoreFaults, lostAt, withBlock, restoredBy, restoreOf, restoredNumber}
-use Rattle.tag.proofs.Making.{one-call-numbered, settingsNo, accepted-message}
+use Rattle.tag.proofs.Making.{one-call-numbered, accepted-settings, accepted-message}
 use Rattle.tag.proofs.Numbers.{tagged, listed, checkFault, says-yes}
-use Rattle.tag.proofs.Full.{n, size, whole-bytes, tagged-full}
-use Rattle.tag.proofs.Restoring.{full-is}
+use Rattle.tag.proofs.Full.{n, size, whole-bytes}
+use Rattle.tag.proofs.Restoring.{tag-whole, full-is}
 use Rattle.tag.proofs.RestoreOrder.{order-full}
 use Rattle.tag.proofs.BlockBytes.{Outside, bits-outside, outside-with, own, own-long, with-twice, with-own}
-use Rattle.tag.proofs.OneBlockMade.{whole-back, length-withBlock, bits-withBlock}
+use Rattle.tag.proofs.OneBlockMade.{whole-back, length-withBlock, tag-with}
 
 -- ---- the number, and a refusal
 
@@ -52,21 +52,13 @@ module _ (A : Agreement) (s message : List ℕ) (l j : ℕ) (t : List ℕ) where
   abbrev pub restoreFault : ℕ
   restoreFault = firstOf (restoreFaults A s (length message) l j (length t))
 
-  pub result-of : restoreOf A s message l j t .0 ≡ pick (eqb restoreFault 0) Filled (Refused restoreFault)
-  unfolding restoreOf restoredBy pick
-  result-of = go (eqb restoreFault 0)
-    where
-      go : (b : Bool) → pick {A = Restored × List ℕ} b (Filled, withBlock j message (tagBytes (lostAt (settingsOf A) (inUse A s) message l j t))) (Refused restoreFault, message) .0 ≡ pick b Filled (Refused restoreFault)
-      go true = refl
-      go false = refl
+  result-of : restoreOf A s message l j t .0 ≡ pick (eqb restoreFault 0) Filled (Refused restoreFault)
+  unfolding restoreOf restoredBy
+  result-of = pick-ap (λ (r : Restored × List ℕ). r .0) (eqb restoreFault 0) _ _
 
   pub restore-faults : restoredNumber (restoreOf A s message l j t .0) ≡ restoreFault
-  unfolding restoredNumber pick
-  restore-faults = ap restoredNumber result-of ∙ go (eqb restoreFault 0) refl
-    where
-      go : (b : Bool) → eqb restoreFault 0 ≡ b → restoredNumber (pick b Filled (Refused restoreFault)) ≡ restoreFault
-      go true e = sym (eqb-true restoreFault 0 e)
-      go false e = refl
+  unfolding restoreOf restoredBy restoredNumber
+  restore-faults = chosen-number (λ (r : Restored × List ℕ). restoredNumber (r .0)) restoreFault _ _ refl refl
 
   pub refused-of : ¬ (restoreFault ≡ 0) → restoreOf A s message l j t ≡ (Refused restoreFault, message)
   unfolding restoreOf restoredBy pick
@@ -78,16 +70,12 @@ module _ (A : Agreement) (s message : List ℕ) (l j : ℕ) (t : List ℕ) where
 
   -- ---- what an accepted call has
 
-  abbrev pub checking : Agreement → List Fault
+  abbrev checking : Agreement → List Fault
   checking B = oneCallFaults B s (length message) l (tagLengthWrong (B .m) (length t))
 
   clear-checking : restoreFault ≡ 0 → firstOf (checking (fullOnly A)) ≡ 0
   unfolding restoreFaults
   clear-checking e = first-front (checking (fullOnly A)) _ e
-
-  sound-settings : restoreFault ≡ 0 → settingsNo (fullOnly A) s (length message) l true ≡ 0
-  unfolding oneCallFaults settingsRefusal
-  sound-settings e = first-front (agreementFaults (fullOnly A) s) _ (clear-checking e)
 
   pub record Accepted : Type 0 where
     pub whole : A .m ≡ n
@@ -103,11 +91,19 @@ module _ (A : Agreement) (s message : List ℕ) (l j : ℕ) (t : List ℕ) where
   }
     where
       both : (A .m ≡ n) × (fullOnly A ≡ A)
-      both = full-is A (sound-size (fullOnly A) (length s) (inUse (fullOnly A) s) (sound-settings e) .0)
+      both = full-is A (sound-size (fullOnly A) (length s) (inUse (fullOnly A) s) (accepted-settings (fullOnly A) s (length message) l _ (clear-checking e)) .0)
 
       there : (b : Bool) → _≡_ {A = ℕ} (pick b 41 0) 0 → b ≡ false
       there true h = absurd (omega arith)
       there false h = refl
+
+  -- and where it has that, it is accepted
+  pub accepts : Accepted → restoreFault ≡ 0
+  unfolding noSuchBlock firstOf pick
+  accepts ok =
+      ap firstOf (order-full A s (length message) l j (length t) (ok .whole))
+      ∙ first-append-clear (checking A) _ (one-call-numbered A s (length message) l _) (ok .checked)
+      ∙ ap (λ (b : Bool). pick b 41 0) (le-ltb l (suc j * n) (ok .fits))
 
   -- ---- the bytes that are put in
 
@@ -123,8 +119,7 @@ module _ (A : Agreement) (s message : List ℕ) (l j : ℕ) (t : List ℕ) where
     holds = omega (arith, facts .long)
 
     t-whole : length (bytesBits t) ≡ n
-    unfolding tagLengthWrong bytesFor
-    t-whole = let c = eqb-true (length t) (bytesFor (A .m)) (not-false _ (facts .room)) in omega (arith, length-bytesBits t, c, ok .whole, width-at 1)
+    t-whole = length-bytesBits t ∙ tag-whole (A .m) (length t) (ok .whole) (facts .room)
 
     in-bits : suc j * n ≤ length (bitsOf message l)
     in-bits = omega (arith, ok .fits, length-bitsOf message l holds)
@@ -140,13 +135,10 @@ module _ (A : Agreement) (s message : List ℕ) (l j : ℕ) (t : List ℕ) where
     abbrev with : List ℕ → Bits
     with f = full (cipherAt 1) (algorithmAt (A .algorithm)) (methodAt (A .padding)) (inUse A s) (refilled n j (bitsOf message l) (bytesBits f))
 
-    tag-with : (f : List ℕ) → length f ≡ size → tagged A (inUse A s) (bitsOf (withBlock j message f) l) ≡ tagBytes (with f)
-    tag-with f h = ap (tagged A (inUse A s)) (bits-withBlock j l message (ok .fits) holds f h) ∙ tagged-full A (ok .whole) (inUse A s) _
-
     pub fits-tag : ((i : ℕ) → getD t i 0 < 256) → tagged A (inUse A s) (bitsOf (withBlock j message filling) l) ≡ t
     unfolding lostAt
     fits-tag bytes =
-        tag-with filling filling-long
+        tag-with j l message (ok .fits) holds A (ok .whole) (inUse A s) filling filling-long
         ∙ ap (λ (w : Bits). tagBytes (full (cipherAt 1) (algorithmAt (A .algorithm)) (methodAt (A .padding)) (inUse A s) (refilled n j (bitsOf message l) w))) (whole-back _ lost-whole)
         ∙ ap tagBytes (lost-fits (cipherAt 1) (lawful-at 1) (algorithmAt (A .algorithm)) (methodAt (A .padding)) (inUse A s) j (bitsOf message l) in-bits (bytesBits t) t-whole)
         ∙ tagBytes-bytesBits t bytes
@@ -156,11 +148,11 @@ module _ (A : Agreement) (s message : List ℕ) (l j : ℕ) (t : List ℕ) where
     only-filling f h bytes e =
         bytesBits-inj f filling bytes (tagBytes-fit _) (h ∙ sym filling-long)
         (lost-only (cipherAt 1) (lawful-at 1) (algorithmAt (A .algorithm)) (methodAt (A .padding)) (inUse A s) j (bitsOf message l) in-bits (bytesBits t) (bytesBits f) (omega (arith, length-bytesBits f, whole-bytes))
-        (sym (whole-back (with f) (tag-long (cipherAt 1) (lawful-at 1) (algorithmAt (A .algorithm)) (methodAt (A .padding)) (inUse A s) n _ (omega arith))) ∙ ap bytesBits (sym (tag-with f h) ∙ e))
+        (sym (whole-back (with f) (tag-long (cipherAt 1) (lawful-at 1) (algorithmAt (A .algorithm)) (methodAt (A .padding)) (inUse A s) n _ (omega arith))) ∙ ap bytesBits (sym (tag-with j l message (ok .fits) holds A (ok .whole) (inUse A s) f h) ∙ e))
         ∙ sym (whole-back _ lost-whole))
 
     -- any filling is checked as the message was
-    pub checks-like : (f : List ℕ) → length f ≡ size → checkFault A s (withBlock j message f) l t ≡ 0
+    checks-like : (f : List ℕ) → length f ≡ size → checkFault A s (withBlock j message f) l t ≡ 0
     checks-like f h = ap (λ (c : ℕ). firstOf (oneCallFaults A s c l (tagLengthWrong (A .m) (length t)))) (length-withBlock j l message (ok .fits) holds f h) ∙ ok .checked
 
   -- ---- the message that a call leaves
@@ -216,29 +208,24 @@ module _ (A : Agreement) (s x y : List ℕ) (l j : ℕ) (t : List ℕ) (h : Outs
 
 -- x is checked, and the bytes f stand in the place of its block j
 module _ (A : Agreement) (s x : List ℕ) (l j : ℕ) (t f : List ℕ) (whole : A .m ≡ n) (checked : checkFault A s x l t ≡ 0) (fits : suc j * n ≤ l) (hf : length f ≡ size) where
+  own-block : Accepted A s x l j t
+  own-block = record { whole = whole; checked = checked; fits = fits }
+
   x-holds : l ≤ 8 * length x
-  unfolding bytesFor
-  x-holds = omega (arith, taken (settingsOf A) (length x) l _ (accepted-message A s (length x) l _ checked) .long)
+  x-holds = holds A s x l j t own-block
+
+  lost-block : Accepted A s (withBlock j x f) l j t
+  lost-block = record { whole = whole; checked = checks-like A s x l j t own-block f hf; fits = fits }
 
   pub back-accepted : restoreFault A s (withBlock j x f) l j t ≡ 0
-  unfolding noSuchBlock firstOf pick
-  back-accepted =
-      ap firstOf (order-full A s (length (withBlock j x f)) l j (length t) whole)
-      ∙ first-append-clear (checking A s (withBlock j x f) l j t A) _ (one-call-numbered A s (length (withBlock j x f)) l _) same
-      ∙ ap (λ (b : Bool). pick b 41 0) (le-ltb l (suc j * n) fits)
-    where
-      same : firstOf (checking A s (withBlock j x f) l j t A) ≡ 0
-      same = ap (λ (c : ℕ). firstOf (oneCallFaults A s c l (tagLengthWrong (A .m) (length t)))) (length-withBlock j l x fits x-holds f hf) ∙ checked
+  back-accepted = accepts A s (withBlock j x f) l j t lost-block
 
   pub back-of : ((i : ℕ) → getD x i 0 < 256) → tagged A (inUse A s) (bitsOf x l) ≡ t → restoreOf A s (withBlock j x f) l j t ≡ (Filled, x)
   back-of bytes e =
       filled-of A s (withBlock j x f) l j t back-accepted
-      ∙ ap (λ (b : List ℕ). (Filled, withBlock j (withBlock j x f) b)) (sym (only-filling A s (withBlock j x f) l j t ok block (own-long j l x fits x-holds) block-bytes (ap (λ (m : List ℕ). tagged A (inUse A s) (bitsOf m l)) again ∙ e)))
+      ∙ ap (λ (b : List ℕ). (Filled, withBlock j (withBlock j x f) b)) (sym (only-filling A s (withBlock j x f) l j t lost-block block (own-long j l x fits x-holds) block-bytes (ap (λ (m : List ℕ). tagged A (inUse A s) (bitsOf m l)) again ∙ e)))
       ∙ ap (λ (m : List ℕ). (Filled, m)) again
     where
-      ok : Accepted A s (withBlock j x f) l j t
-      ok = accepted A s (withBlock j x f) l j t back-accepted
-
       block : List ℕ
       block = own j l x fits x-holds
 

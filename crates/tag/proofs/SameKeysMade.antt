@@ -55,7 +55,7 @@ module _ (k : List ℕ) (sixteen : length k ≡ 16) where
   front-k : (rest : List ℕ) → front (k ++ rest) ≡ k
   front-k rest = front-full (k ++ rest) (omega (arith, length-append k rest)) ∙ take-at k rest 16 sixteen
 
-  -- K, K′ and K of the shorter row
+  -- the keys in use: of the 32 bytes under algorithm 3, of the sixteen under algorithm 1
   abbrev used-3 : Keys
   used-3 = unpackOf false 3 (k ++ k) .out
 

@@ -39,9 +39,6 @@ pub record SameUse (A : Agreement) (s : List ℕ) (B : Agreement) (t : List ℕ)
   pub settings : settingsOf A ≡ settingsOf B
   pub keys : inUse A s ≡ inUse B t
 
-pub same-use : (A B : Agreement) (s t : List ℕ) → A ≡ B → s ≡ t → SameUse A s B t
-same-use A B s t e f = record { settings = ap settingsOf e; keys = ap₂ inUse e f }
-
 pub tagged-same : (A B : Agreement) (s t : List ℕ) → SameUse A s B t → (x : Bits) → tagged A (inUse A s) x ≡ tagged B (inUse B t) x
 tagged-same A B s t h x = λ i. tagBytes (tagOf (cipherAt 1) (algorithmAt (h .settings i .algorithm)) (methodAt (h .settings i .padding)) (h .keys i) (h .settings i .m) x)
 

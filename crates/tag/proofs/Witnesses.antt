@@ -1,5 +1,5 @@
 -- The hypotheses of demand 3 over the code can be met, for each algorithm and padding that has a full tag: a call of `make` with a
--- message of 32 bytes, these keys and any room of sixteen bytes is accepted (`full-accepted`), and there are two such messages that
+-- message of 32 bytes, these keys and any room of sixteen bytes or more is accepted (`full-accepted`), and there are two such messages that
 -- differ, and only inside one block (`some-apart`, `some-differ`). Sessions accept whatever one call accepts (`accepting` of crate
 -- session). Either block of such a message is restored out of any sixteen bytes (`restore-accepted`).
 -- Assumes nothing.
@@ -13,7 +13,7 @@ use lib.ListN.{length, getD, drop, replicate}
 use borrow.Author.Tests.{eq-eqb, le-ltb}
 use Rattle.bits.specs.Choice.{pick, firstOf}
 use Rattle.bits.specs.Str.{Bits, bitsN, digit, bytesBits, sameB, zeros, halvesFlipped, everySecond}
-use Rattle.bits.proofs.Faults.{passed, done, clear-first, first-append-clear}
+use Rattle.bits.proofs.Faults.{passed, done, clear-first}
 use Rattle.block.specs.Block.{front}
 use Rattle.cipher.specs.Cipher.{Cipher}
 use Rattle.cipher.specs.Ciphers.{cipherAt}
@@ -29,13 +29,11 @@ use Rattle.keys.specs.Given.{unpackOf}
 use Rattle.keys.specs.Faults.{keyBytes, masterWrong, keyBytesWrong, keysSame}
 use Rattle.settings.specs.Faults.{settingsFaults, algorithmWrong, paddingWrong, sizeWrong}
 use Rattle.settings.specs.declared.Agreement.{Agreement}
-use Rattle.message.specs.Faults.{messageFaults, lengthWrong, tooManyBits, tooFewBlocks, roomShort, tagLengthWrong, noSuchBlock}
+use Rattle.message.specs.Faults.{messageFaults, lengthWrong, tooManyBits, tooFewBlocks, roomShort, tagLengthWrong}
 use Rattle.tag.specs.OneCall.{oneCallFaults}
 use Rattle.tag.proofs.Numbers.{makeFault}
 use Rattle.tag.proofs.Full.{n}
-use Rattle.tag.proofs.RestoreOrder.{order-full}
-use Rattle.tag.proofs.Making.{one-call-numbered}
-use Rattle.tag.proofs.RestoredBlock.{restoreFault, checking}
+use Rattle.tag.proofs.RestoredBlock.{restoreFault, accepts}
 
 -- an agreement on full tags
 abbrev pub fullTags : ℕ → ℕ → Agreement
@@ -100,19 +98,15 @@ full-length t e = ap not (eq-eqb (length t) 16 e) ∙ sym (le-ltb (length t) 16 
 
 pub restore-accepted : (a p : ℕ) → algorithmWrong a ≡ false → paddingWrong a p ≡ false → sizeWrong a n ≡ false
     → (x t : List ℕ) → length x ≡ 32 → length t ≡ 16 → (j : ℕ) → j < 2 → restoreFault (fullTags a p) (someKeys a) x 256 j t ≡ 0
-unfolding noSuchBlock firstOf pick
 restore-accepted a p e1 e2 e3 x t long sixteen j low =
-    ap firstOf (order-full (fullTags a p) (someKeys a) (length x) 256 j (length t) refl)
-    ∙ first-append-clear (checking (fullTags a p) (someKeys a) x 256 j t (fullTags a p)) _ (one-call-numbered (fullTags a p) (someKeys a) (length x) 256 _) checked
-    ∙ ap (λ (b : Bool). pick b 41 0) (le-ltb 256 (suc j * n) inside)
-  where
-    inside : suc j * n ≤ 256
-    inside = omega (arith, ap (λ (k : ℕ). suc j * k) sm4-width)
-
-    checked : firstOf (checking (fullTags a p) (someKeys a) x 256 j t (fullTags a p)) ≡ 0
-    checked =
-        ap (λ (b : Bool). firstOf (oneCallFaults (fullTags a p) (someKeys a) (length x) 256 b)) (full-length t sixteen)
-        ∙ full-accepted a p e1 e2 e3 x t long (omega arith)
+    accepts (fullTags a p) (someKeys a) x 256 j t
+    (record {
+      whole = refl;
+      checked =
+          ap (λ (b : Bool). firstOf (oneCallFaults (fullTags a p) (someKeys a) (length x) 256 b)) (full-length t sixteen)
+          ∙ full-accepted a p e1 e2 e3 x t long (omega arith);
+      fits = omega (arith, ap (λ (k : ℕ). suc j * k) sm4-width);
+    })
 
 -- ---- two messages that differ in their first bit
 

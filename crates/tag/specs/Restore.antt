@@ -24,9 +24,13 @@ use Rattle.tag.specs.declared.Restored.the-variants.{Filled, Refused}
 
 -- ---- the order
 
+-- the agreement, but for its m
+abbrev pub bitless : Agreement → Agreement
+bitless A = record { algorithm = A .algorithm; padding = A .padding; m = 0; master = A .master }
+
 -- 3 is also for an m that is not a full tag's: it counts as 0, which 3 refuses (`restore-order`)
 unfoldable pub fullOnly : Agreement → Agreement
-fullOnly A = pick (eqb (A .m) (cipherAt 1 .n)) A (record { algorithm = A .algorithm; padding = A .padding; m = 0; master = A .master })
+fullOnly A = pick (eqb (A .m) (cipherAt 1 .n)) A (bitless A)
 
 -- 1 to 5 and 7 to 10 as when checking a tag of t bytes, then 41
 unfoldable pub restoreFaults : Agreement → List ℕ → ℕ → ℕ → ℕ → ℕ → List Fault

@@ -1,7 +1,7 @@
 // A tag in one call: made, or checked, or a lost block of the message worked out of it. Every input is answered; the message is worked
 // block by block where it lies.
 ghost use mathlib.Core.Path.{_≡_};
-ghost use Prim.Native.Nat.{suc, _*_, _≤_, _<_};
+ghost use Prim.Native.Nat.{suc, _*_, _≤_};
 ghost use lib.ListN.{length};
 ghost use Rattle.bits.specs.Str.{bytesBits};
 ghost use Rattle.block.specs.Block.{storage, filledBlock};
@@ -47,7 +47,7 @@ fn make_under(
     bits: usize,
     room: &mut [u8],
 ) -> settings::Outcome
-    requires { ⌜ (0 < s .m) × (s .m ≤ storage) ⌝ }
+    requires { ⌜ s .m ≤ storage ⌝ }
     ensures { λ r. ⌜ ((R : Run Keys) → Unpacks unpacked R → (r, now (room .exit)) ≡ makeUnder s R (now (message .entry)) bits (now (room .entry))) ⌝ }
 {
     let ten = message::room_short(s.m, room.len());
@@ -88,7 +88,7 @@ fn check_under(
     bits: usize,
     offered: &[u8],
 ) -> settings::Outcome
-    requires { ⌜ (0 < s .m) × (s .m ≤ storage) ⌝ }
+    requires { ⌜ s .m ≤ storage ⌝ }
     ensures { λ r. ⌜ ((R : Run Keys) → Unpacks unpacked R → r ≡ checkUnder s R (now (message .entry)) bits (now (offered .entry))) ⌝ }
 {
     let ten = message::tag_length_wrong(s.m, offered.len());

@@ -1,12 +1,13 @@
 -- `check_under` meets its contract: the message's refusal (`check-refused-under`), or the comparison with the tag's bytes (`checked-is`).
 -- Assumes nothing.
-use mathlib.Core.Path.{_≡_, sym, ap, _∙_}
-use mathlib.Core.Bool.{Bool, true, false}
-use Prim.Native.Nat.{ℕ, _≤_}
+use mathlib.Core.Path.{_≡_, refl, sym, ap, _∙_}
+use mathlib.Core.Bool.{Bool}
+use Prim.Native.Nat.{_≤_}
 use native.Mathlib.Omega.{arith}
 use lib.ListN.{length}
 use lib.Seq.{length-take-le}
 use Rattle.bits.specs.Choice.{pick, firstOf}
+use Rattle.bits.proofs.Choice.{hit, miss}
 use Rattle.block.specs.Block.{filledBlock}
 use Rattle.mac.specs.Run.{Run}
 use Rattle.mac.specs.Algorithm.{Keys}
@@ -45,7 +46,7 @@ short : (c : tie.After-bytes-for) → c .bytes-for .result ≤ 16
 unfolding bytesFor
 short c =
     let made = c .before .before in
-    omega (arith, made .before .before .before .before .before .before .before .pre .1, c .bytes-for .ensures)
+    omega (arith, made .before .before .before .before .before .before .before .pre, c .bytes-for .ensures)
 
 array-share-prefix-tag : tie.Need-array-share-prefix-tag
 array-share-prefix-tag c = let l : length (c .before .before .tag-block .result) ≡ 16 = search needs in omega (arith, short c)
@@ -67,19 +68,14 @@ answer c R u =
     let at = tested .before in
     let start = at .before .before .before .before in
     let a = start .args in
-    checked-is (a .s) R (a .message .now) (a .bits) (at .refusal .result) _ _ _ _ (tested .if1 .left) (c .before .before .bytes-for .ensures) (start .pre .1) (search needs) (made .tag-block .ensures ∙ ap (λ (K : Keys). filledBlock (tagAt (a .s) K (a .message .now) (a .bits))) (u .0))
+    checked-is (a .s) R (a .message .now) (a .bits) (at .refusal .result) _ _ _ _ (tested .if1 .left) (c .before .before .bytes-for .ensures) (start .pre) (search needs) (made .tag-block .ensures ∙ ap (λ (K : Keys). filledBlock (tagAt (a .s) K (a .message .now) (a .bits))) (u .0))
     (u .1) (c .before .before .before .calls .ensures) (a .offered .now) _ (refusal at) (λ i. at .before .before .shared-slice-known2 .given i .fits) (c .equal-bytes .ensures)
 
-chosen : (b d : Bool) (n : ℕ) → b ≡ d → pick d (Yes n) (No n) ≡ pick b (Yes n) (No n)
-chosen b d n e = ap (λ (x : Bool). pick x (Yes n) (No n)) (sym e)
-
 returns-2 : tie.Need-returns-2
-unfolding pick
-returns-2 c R u = chosen _ true _ (c .if2 .taken) ∙ answer (c .before) R u
+returns-2 c R u = hit _ _ _ _ (c .if2 .taken) refl ∙ answer (c .before) R u
 
 returns-3 : tie.Need-returns-3
-unfolding pick
-returns-3 c R u = chosen _ false _ (c .if2 .left) ∙ answer (c .before) R u
+returns-3 c R u = miss _ _ _ _ (c .if2 .left) refl ∙ answer (c .before) R u
 
 pub check-under-spec : {M : Type 1} → statement M
 check-under-spec =
