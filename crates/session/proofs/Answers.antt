@@ -13,7 +13,7 @@ use lib.ListN.{length, take, drop}
 use Rattle.bits.specs.Choice.{pick, _given_, firstOf}
 use Rattle.bits.specs.Str.{bytesBits, zeros, sameB}
 use Rattle.block.specs.Block.{storage, front, filledBlock}
-use Rattle.bits.proofs.Choice.{miss}
+use Rattle.bits.proofs.Choice.{miss, pick-ap}
 use Rattle.bits.proofs.Faults.{all, with, Numbered, every-append, first-append, first-append-clear}
 use Rattle.bits.proofs.Same.{Bytes, sameB-bytes}
 use Rattle.bits.proofs.Strings.{length-zeros}
@@ -28,8 +28,7 @@ use Rattle.cipher.proofs.Laws.{sm4-width, width-at, lawful-at}
 use Rattle.mac.proofs.TagBytes.{take-fits, tagBytes-block, tagBytes-fit}
 use Rattle.mac.proofs.Derive.{from-count}
 use Rattle.keys.specs.Given.{givenOf}
-use Rattle.settings.specs.InUse.{inUse, agreementFaults}
-use Rattle.settings.specs.Faults.{settingsRefusal}
+use Rattle.settings.specs.InUse.{inUse}
 use Rattle.settings.specs.Answers.{numberOf, settingsOf, checkedOf}
 use Rattle.settings.specs.declared.Agreement.{Agreement}
 use Rattle.settings.specs.declared.Settings.{Settings}
@@ -38,9 +37,10 @@ use Rattle.settings.specs.declared.Checked.the-variants.{Sound, Unsound}
 use Rattle.settings.specs.declared.Outcome.{Outcome}
 use Rattle.settings.specs.declared.Outcome.the-variants.{Accepted, Yes, No}
 use Rattle.settings.proofs.Numbers.{number-chosen, sound-chosen}
-use Rattle.settings.proofs.Sound.{agreement-numbered, unsound-is, sound-is}
+use Rattle.settings.proofs.Sound.{agreement-numbered}
 use Rattle.message.specs.Faults.{tooFewBlocks, tagLengthWrong}
 use Rattle.message.proofs.Taken.{enough-held}
+use Rattle.tag.proofs.Making.{unsound-first, sound-first}
 use Rattle.chain.proofs.Standing.{reached-at, finish-long}
 use Rattle.session.specs.declared.Purpose.the-variants.{Checking}
 use Rattle.session.specs.declared.Session.{Session}
@@ -52,28 +52,20 @@ use Rattle.session.specs.Calls.{startFaults, refusedStart, startedBy, st
 abbrev pub of-step : Step → Outcome
 of-step r = r .answer
 
+-- what is read of two choices, where it is read alike
+pub chosen-alike : {R T : Type 0} (f : R → T) (b : Bool) {x x′ y y′ : R} → f x ≡ f x′ → f y ≡ f y′ → f (pick b x y) ≡ f (pick b x′ y′)
+chosen-alike f b {x} {x′} {y} {y′} e h = pick-ap f b x y ∙ ap₂ (pick b) e h ∙ sym (pick-ap f b x′ y′)
+
 -- ---- a start: u are the keys in use, c what the builder answered
 
 module _ (A : Agreement) (s : List ℕ) (d : ℕ) (u : Keys) (eu : u ≡ inUse A s) (c : Checked) (ec : c ≡ checkedOf A (length s) u) where
-  told : c ≡ checkedOf A (length s) (inUse A s)
-  told = ec ∙ ap (checkedOf A (length s)) eu
-
   pub start-refused : (k : ℕ) → c ≡ Unsound k → refusedStart k ≡ startOf A s d
-  unfolding startOf startedBy startFaults settingsRefusal
-  start-refused k e =
-      let both = unsound-is A (length s) (inUse A s) k (sym told ∙ e) in
-      let first = sym (both .0) ∙ sym (first-append (agreementFaults A s) (8 given declaredTooLong (A .padding) d ∷ []) (both .1)) in
-      miss _ _ _ _ (ne-eqb _ 0 (λ z. both .1 (both .0 ∙ first ∙ z))) (ap refusedStart first)
-
-  pub settings-are : (S : Settings) → c ≡ Sound S → S ≡ settingsOf A
-  settings-are S e = sound-is A (length s) (inUse A s) S (sym told ∙ e) .1
+  unfolding startOf startedBy startFaults
+  start-refused k e = let no = unsound-first A s u eu c ec k e _ in miss _ _ _ _ (no .1) (ap refusedStart (no .0))
 
   pub start-sound : (S : Settings) → c ≡ Sound S → (g : List ℕ) → g ≡ givenOf s → startUnder A g u d ≡ startOf A s d
-  unfolding startOf startUnder startFaults settingsRefusal
-  start-sound S e g eg =
-      let both = sound-is A (length s) (inUse A s) S (sym told ∙ e) in
-      let later = first-append-clear (agreementFaults A s) (8 given declaredTooLong (A .padding) d ∷ []) (agreement-numbered A s) (both .0) in
-      λ i. startedBy (sym later i) A (eg i) (eu i) d
+  unfolding startOf startUnder startFaults
+  start-sound S e g eg = let later = sound-first A s u eu c ec S e (8 given declaredTooLong (A .padding) d ∷ []) .1 in λ i. startedBy (sym later i) A (eg i) (eu i) d
 
 -- ---- the start of a check: begun is what the start handed back, and no its number
 

@@ -11,7 +11,7 @@ use native.Mathlib.Omega.{arith}
 use borrow.Author.Tests.{eq-eqb, eqb-true, eqb-false, le-ltb}
 use lib.Dec.{eqb, ltb}
 use lib.ListN.{length}
-use Rattle.bits.specs.Choice.{pick, Fault, _given_, firstOf}
+use Rattle.bits.specs.Choice.{pick, _given_, firstOf}
 use Rattle.bits.specs.Str.{Bits}
 use Rattle.bits.proofs.Faults.{Clear, clear-first, clear-append, first-past, first-append-clear}
 use Rattle.mac.specs.declared.Row.{Row}
@@ -40,7 +40,7 @@ use Rattle.session.specs.Calls.{startFaults, freshOf, declaredAt, startO
 use Rattle.session.proofs.Open.{Open, opens, ended}
 use Rattle.session.proofs.Stood.{stood}
 use Rattle.session.proofs.Joined.{Act, Running, ending, Begun, to-make, record-after, message, finished, finish-faults, finish-sound, finish-runs, declared-met, finish-stood, after-stood, joined-bits}
-use Rattle.session.proofs.StaysOpen.{three-no, start-clear}
+use Rattle.session.proofs.StaysOpen.{three-no, kept-no, start-clear}
 
 -- bytes of which the first l bits are the message x
 pub record Holds (bytes : List ℕ) (l : ℕ) (x : Bits) : Type 0 where
@@ -55,7 +55,6 @@ length-held bytes l x h = ap length (sym (h .bits)) ∙ length-bitsOf bytes l (o
 abbrev pub lastTwo : Agreement → ℕ → Bool → ℕ
 lastTwo A l ten = firstOf (9 given tooFewBlocks (settingsOf A) l ∷ 10 given ten ∷ [])
 
--- a fault that is not there is passed over
 -- the faults of its finish, its purpose being to make
 stood-faults : (A : Agreement) (s : List ℕ) (d : ℕ) (x : Bits) (room : ℕ) → finishFaults (stood A s d x) room ≡ endFaults (stood A s d x) false (roomShort (A .m) room)
 unfolding finishFaults isCheck stood standing freshOf
@@ -66,10 +65,10 @@ stood-faults A s d x room = refl
 module _ (A : Agreement) (s : List ℕ) (d : ℕ) (g : Clear (startFaults A s d)) (x : Bits) (runs : Running (stood A s d x)) where
   -- 11 and 12 are not there
   pub end-last : (A .padding ≡ 3 → d ≡ length x) → (ten : Bool) → firstOf (endFaults (stood A s d x) false ten) ≡ lastTwo A (length x) ten
-  unfolding endFaults fallsShort declaredAt pick stood standing freshOf
+  unfolding endFaults fallsShort stood standing freshOf
   end-last met ten =
       first-past 11 _ _ runs ∙ first-past 11 _ _ refl
-      ∙ first-past 12 _ _ (three-no (A .padding) _ (λ e. ap (λ (k : ℕ). ltb (length x) (pick (eqb k 3) d 0)) e ∙ le-ltb (length x) d (omega (arith, met e))))
+      ∙ first-past 12 _ _ (kept-no (A .padding) d (λ k. ltb (length x) k) (three-no (A .padding) _ (λ e. le-ltb (length x) d (omega (arith, met e)))))
 
   -- 1 to 5 are not there, nor 7 and 8
   pub one-call-last : (bytes : List ℕ) (l : ℕ) → Holds bytes l x → (ten : Bool) → firstOf (oneCallFaults A s (length bytes) l ten) ≡ lastTwo A (length x) ten
@@ -103,7 +102,7 @@ module _ (A : Agreement) (s : List ℕ) (d : ℕ) (g : Clear (startFaults A s d)
 
 -- ---- 9 under padding 3: never, for L and a block of the message are two
 
-pub never-few : (A : Agreement) (l : ℕ) → A .padding ≡ 3 → tooFewBlocks (settingsOf A) l ≡ false
+never-few : (A : Agreement) (l : ℕ) → A .padding ≡ 3 → tooFewBlocks (settingsOf A) l ≡ false
 unfolding tooFewBlocks needed
 never-few A l e =
     le-ltb (blockCount (methodAt (A .padding)) (cipherAt 1 .n) l) (row (algorithmAt (A .algorithm)) .least) (omega (arith, least-two (algorithmAt (A .algorithm)), count-three (cipherAt 1 .n) l (lawful-at 1 .wide) (A .padding) e))
@@ -115,18 +114,39 @@ no-nine true t e = absurd (omega arith)
 no-nine false true e = absurd (omega arith)
 no-nine false false e = absurd (omega arith)
 
-module _ (A : Agreement) (s : List ℕ) (d : ℕ) (g : Clear (startFaults A s d)) (x : Bits) (runs : Running (stood A s d x)) (three : A .padding ≡ 3) where
-  pub never-nine : (ten : Bool) → ¬ (firstOf (endFaults (stood A s d x) false ten) ≡ 9)
+module _ (A : Agreement) (s : List ℕ) (d : ℕ) (g : Clear (startFaults A s d)) (x : Bits) (runs : Running (stood A s d x)) where
+  never-nine : A .padding ≡ 3 → (ten : Bool) → ¬ (firstOf (endFaults (stood A s d x) false ten) ≡ 9)
   unfolding endFaults stood standing freshOf
-  never-nine ten e =
+  never-nine three ten e =
       no-nine (fallsShort (A .padding) (declaredAt (A .padding) d) (length x)) ten
       (ap (λ (b : Bool). firstOf (12 given fallsShort (A .padding) (declaredAt (A .padding) d) (length x) ∷ 9 given b ∷ 10 given ten ∷ [])) (sym (never-few A (length x) three))
       ∙ sym (first-past 11 _ _ runs ∙ first-past 11 _ _ refl) ∙ e)
 
-  pub one-never-nine : (bytes : List ℕ) (l : ℕ) → Holds bytes l x → (ten : Bool) → ¬ (firstOf (oneCallFaults A s (length bytes) l ten) ≡ 9)
-  one-never-nine bytes l h ten e =
+  one-never-nine : A .padding ≡ 3 → (bytes : List ℕ) (l : ℕ) → Holds bytes l x → (ten : Bool) → ¬ (firstOf (oneCallFaults A s (length bytes) l ten) ≡ 9)
+  one-never-nine three bytes l h ten e =
       no-nine false ten
       (first-past 12 false _ refl ∙ ap (λ (b : Bool). firstOf (9 given b ∷ 10 given ten ∷ [])) (sym (never-few A (length x) three)) ∙ sym (one-call-last A s d g x runs bytes l h ten) ∙ e)
+
+  -- so it is there in both orders or in neither
+  abbrev NineBoth : List ℕ → ℕ → Bool → Type 0
+  NineBoth bytes l ten =
+      let end = firstOf (endFaults (stood A s d x) false ten) in
+      let one = firstOf (oneCallFaults A s (length bytes) l ten) in
+      (end ≡ 9 → one ≡ 9) × (one ≡ 9 → end ≡ 9)
+
+  pub nine-faults : (bytes : List ℕ) (l : ℕ) → Holds bytes l x → (ten : Bool) → NineBoth bytes l ten
+  nine-faults bytes l h ten = go (eqb (A .padding) 3) refl
+    where
+      go : (b : Bool) → eqb (A .padding) 3 ≡ b → NineBoth bytes l ten
+      go true p = let three = eqb-true (A .padding) 3 p in (λ nine. absurd (never-nine three ten nine), λ nine. absurd (one-never-nine three bytes l h ten nine))
+      go false p =
+          let same = end-last A s d g x runs (λ e. absurd (eqb-false (A .padding) 3 p e)) ten ∙ sym (one-call-last A s d g x runs bytes l h ten) in
+          (λ nine. sym same ∙ nine, λ nine. same ∙ nine)
+
+-- under padding 3 the declared length is kept
+pub declared-kept : (p d : ℕ) → p ≡ 3 → declaredAt p d ≡ d
+unfolding declaredAt pick
+declared-kept p d e = ap (λ (k : ℕ). pick (eqb k 3) d 0) e
 
 -- ---- the statements: of every start that was accepted and any calls after it
 
@@ -147,7 +167,7 @@ module _ (A : Agreement) (s : List ℕ) (d : ℕ) (u : Unrefused (startOf A s d 
       ∙ both A s d (start-clear A s d u) (message b cs) (rw e at runs) met bytes l h room
 
   pub finished-as-one-call : Unrefused (end .0 .answer) → Unrefused (one .0) × (end ≡ ending one)
-  unfolding declaredAt pick finishFaults
+  unfolding finishFaults
   finished-as-one-call f = (accepted, joined-bits A s d u cs room f ∙ ap ending (sym (made-of A s bytes l room accepted ∙ ap (λ (w : Bits). madeOf A s w room) (h .bits))))
     where
       runs : Running (record-after b cs)
@@ -158,22 +178,15 @@ module _ (A : Agreement) (s : List ℕ) (d : ℕ) (u : Unrefused (startOf A s d 
       met e =
           let sound = finish-sound (record-after b cs) room f in
           let met-at = declared-met A s d (message b cs) (ended _ _ _ (rw (after-stood b u cs runs) at sound)) e in
-          sym (ap (λ (k : ℕ). pick (eqb k 3) d 0) e) ∙ met-at
+          sym (declared-kept (A .padding) d e) ∙ met-at
 
       accepted : Unrefused (one .0)
       accepted = ap (λ (r : Outcome × List ℕ). numberOf (r .0)) (sym (ends-as-one-call runs met)) ∙ f
 
   pub nine-by-both : Running (record-after b cs) → (numberOf (end .0 .answer) ≡ 9 → numberOf (one .0) ≡ 9) × (numberOf (one .0) ≡ 9 → numberOf (end .0 .answer) ≡ 9)
-  nine-by-both runs = go (eqb (A .padding) 3) refl
-    where
-      go : (b : Bool) → eqb (A .padding) 3 ≡ b → (numberOf (end .0 .answer) ≡ 9 → numberOf (one .0) ≡ 9) × (numberOf (one .0) ≡ 9 → numberOf (end .0 .answer) ≡ 9)
-      go true p =
-          let three = eqb-true (A .padding) 3 p in
-          let e = after-stood b u cs runs in
-          let g = start-clear A s d u in (
-            λ nine. absurd (never-nine A s d g (message b cs) (rw e at runs) three _ (ap firstOf (sym (stood-faults A s d (message b cs) (length room))) ∙ sym (finish-faults (stood A s d (message b cs)) room) ∙ ap (λ (t : Session). numberOf (finishOf t room .0 .answer)) (sym e) ∙ nine)),
-            λ nine. absurd (one-never-nine A s d g (message b cs) (rw e at runs) three bytes l h _ (sym (make-faults A s bytes l room) ∙ nine)),
-          )
-      go false p =
-          let same = ap (λ (r : Outcome × List ℕ). numberOf (r .0)) (ends-as-one-call runs (λ e. absurd (eqb-false (A .padding) 3 p e))) in
-          (λ nine. sym same ∙ nine, λ nine. same ∙ nine)
+  nine-by-both runs =
+      let e = after-stood b u cs runs in
+      let nine = nine-faults A s d (start-clear A s d u) (message b cs) (rw e at runs) bytes l h (roomShort (A .m) (length room)) in
+      let ended = ap (λ (t : Session). numberOf (finishOf t room .0 .answer)) e ∙ finish-faults (stood A s d (message b cs)) room ∙ ap firstOf (stood-faults A s d (message b cs) (length room)) in
+      let made = make-faults A s bytes l room in
+      (λ k. made ∙ nine .0 (sym ended ∙ k), λ k. ended ∙ nine .1 (sym made ∙ k))

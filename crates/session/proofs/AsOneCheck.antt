@@ -6,14 +6,14 @@
 -- Assumes nothing.
 use mathlib.Core.Path.{_≡_, refl, sym, ap, _∙_}
 use mathlib.Core.Bool.{Bool, true, false}
-use mathlib.Core.List.{List, [], _∷_}
+use mathlib.Core.List.{List}
 use Prim.Native.Nat.{ℕ}
-use borrow.Author.Tests.{eqb-true, eqb-false}
+use borrow.Author.Tests.{eqb-true}
 use lib.Dec.{eqb}
 use lib.ListN.{length}
-use Rattle.bits.specs.Choice.{pick, _given_, firstOf}
+use Rattle.bits.specs.Choice.{pick, firstOf}
 use Rattle.bits.specs.Str.{Bits}
-use Rattle.bits.proofs.Faults.{Clear, passed, done}
+use Rattle.bits.proofs.Faults.{clear-one}
 use Rattle.bits.proofs.Same.{sameBytes-true, sameBytes-eq}
 use Rattle.block.specs.Block.{front}
 use Rattle.settings.specs.InUse.{unpacked, inUse}
@@ -29,12 +29,12 @@ use Rattle.session.specs.declared.Purpose.the-variants.{Checking}
 use Rattle.session.specs.declared.Session.{Session}
 use Rattle.session.specs.declared.Step.{Step}
 use Rattle.session.specs.Record.{cleared, aimed, isCheck, countsClosed}
-use Rattle.session.specs.Calls.{startFaults, declaredAt, startCheckOf, endFaults, finishCheckFaults, finishCheckOf}
+use Rattle.session.specs.Calls.{startCheckOf, endFaults, finishCheckFaults, finishCheckOf}
 use Rattle.session.proofs.Open.{ended}
 use Rattle.session.proofs.Purposes.{aimed-closed, aimed-end}
 use Rattle.session.proofs.Stood.{stood}
 use Rattle.session.proofs.Joined.{Act, Running, Begun, to-check, record-after, message, checked, finish-check-faults, finish-check-sound, finish-check-runs, declared-met, check-stood, start-check-clear, expected-tag, after-stood, joined-check}
-use Rattle.session.proofs.AsOneCall.{Holds, lastTwo, end-last, one-call-last, never-nine, one-never-nine}
+use Rattle.session.proofs.AsOneCall.{Holds, lastTwo, end-last, one-call-last, nine-faults, declared-kept}
 
 -- the faults of its finish, its purpose being to check
 aimed-faults : (e : List ℕ) (s : Session) → firstOf (finishCheckFaults (aimed Checking e s)) ≡ firstOf (endFaults s false false)
@@ -49,10 +49,7 @@ module _ (A : Agreement) (s : List ℕ) (d : ℕ) (tag : List ℕ) (u : Unrefuse
   ten = tagLengthWrong (A .m) (length tag)
 
   right : ten ≡ false
-  right = go (start-check-clear A s d tag u .1)
-    where
-      go : Clear (10 given tagLengthWrong (A .m) (length tag) ∷ []) → ten ≡ false
-      go (passed e done) = e
+  right = clear-one (start-check-clear A s d tag u .1)
 
   module _ (x : Bits) (runs : Running (stood A s d x)) where
     abbrev r : Session
@@ -107,7 +104,7 @@ module _ (A : Agreement) (s : List ℕ) (d : ℕ) (tag : List ℕ) (u : Unrefuse
     ends-as-one-check runs met = ap (λ (t : Session). finishCheckOf t .answer) (after-stood b u cs runs) ∙ both-checks A s d tag u x (stood-runs runs) met bytes l h
 
     pub checked-as-one-call : Unrefused (end .answer) → Unrefused (checkOf A s bytes l tag) × (end ≡ record { answer = checkOf A s bytes l tag; session = cleared })
-    unfolding declaredAt pick finishCheckFaults
+    unfolding finishCheckFaults
     checked-as-one-call f =
         (accepted, joined-check A s d tag u cs f ∙ ap (λ (o : Outcome). record { answer = o; session = cleared }) (sym (checked-of A s bytes l tag accepted ∙ ap (λ (w : Bits). verdictOf A s w tag) (h .bits))))
       where
@@ -119,25 +116,14 @@ module _ (A : Agreement) (s : List ℕ) (d : ℕ) (tag : List ℕ) (u : Unrefuse
         met e =
             let sound = finish-check-sound (record-after b cs) f in
             let faults = sym (aimed-faults (front tag) (stood A s d x)) ∙ (rw (after-stood b u cs runs) at sound) in
-            sym (ap (λ (k : ℕ). pick (eqb k 3) d 0) e) ∙ declared-met A s d x (ended (stood A s d x) false false faults) e
+            sym (declared-kept (A .padding) d e) ∙ declared-met A s d x (ended (stood A s d x) false false faults) e
 
         accepted : Unrefused (checkOf A s bytes l tag)
         accepted = ap numberOf (sym (ends-as-one-check runs met)) ∙ f
 
     pub nine-by-both-checks : Running (record-after b cs) → (numberOf (end .answer) ≡ 9 → numberOf (checkOf A s bytes l tag) ≡ 9) × (numberOf (checkOf A s bytes l tag) ≡ 9 → numberOf (end .answer) ≡ 9)
-    nine-by-both-checks runs = go (eqb (A .padding) 3) refl
-      where
-        g : Clear (startFaults A s d)
-        g = start-check-clear A s d tag u .0
-
-        go : (t : Bool) → eqb (A .padding) 3 ≡ t → (numberOf (end .answer) ≡ 9 → numberOf (checkOf A s bytes l tag) ≡ 9) × (numberOf (checkOf A s bytes l tag) ≡ 9 → numberOf (end .answer) ≡ 9)
-        go true p =
-            let three = eqb-true (A .padding) 3 p in
-            let e = after-stood b u cs runs in (
-              λ nine. absurd (never-nine A s d g x (stood-runs runs) three false
-                  (sym (aimed-faults (front tag) (stood A s d x)) ∙ sym (finish-check-faults (aimed Checking (front tag) (stood A s d x))) ∙ ap (λ (t : Session). numberOf (finishCheckOf t .answer)) (sym e) ∙ nine)),
-              λ nine. absurd (one-never-nine A s d g x (stood-runs runs) three bytes l h (tagLengthWrong (A .m) (length tag)) (sym (check-faults A s bytes l tag) ∙ nine)),
-            )
-        go false p =
-            let same = ap numberOf (ends-as-one-check runs (λ e. absurd (eqb-false (A .padding) 3 p e))) in
-            (λ nine. sym same ∙ nine, λ nine. same ∙ nine)
+    nine-by-both-checks runs =
+        let nine = nine-faults A s d (start-check-clear A s d tag u .0) x (stood-runs runs) bytes l h false in
+        let ended = ap (λ (t : Session). numberOf (finishCheckOf t .answer)) (after-stood b u cs runs) ∙ finish-check-faults (aimed Checking (front tag) (stood A s d x)) ∙ aimed-faults (front tag) (stood A s d x) in
+        let told = check-faults A s bytes l tag ∙ ap (λ (t : Bool). firstOf (oneCallFaults A s (length bytes) l t)) (right A s d tag u) in
+        (λ k. told ∙ nine .0 (sym ended ∙ k), λ k. ended ∙ nine .1 (sym told ∙ k))

@@ -12,8 +12,8 @@ use lib.ListN.{length, replicate, drop-of-length-le}
 use lib.Seq.{take-all}
 use contract.Lifetimes.{Lfts}
 use borrow.Fn.Kinds.{Dens}
-use Rattle.bits.specs.Choice.{pick}
 use Rattle.bits.specs.Str.{Bits}
+use Rattle.bits.proofs.Choice.{pick-ap}
 use Rattle.block.specs.Block.{front}
 use Rattle.block.proofs.Fronts.{front-full}
 use Rattle.cipher.specs.Cipher.{Cipher}
@@ -28,7 +28,6 @@ use Rattle.keys.specs.Given.{unpackOf, givenOf}
 use Rattle.keys.proofs.GivenKeys.{master-alone}
 use Rattle.settings.specs.Answers.{numberOf}
 use Rattle.settings.specs.declared.Agreement.{Agreement}
-use Rattle.settings.specs.declared.Outcome.the-variants.{Refused}
 use Rattle.settings.proofs.Numbers.{Unrefused}
 use Rattle.message.specs.Faults.{roomShort}
 use Rattle.session.specs.declared.Session.{Session}
@@ -36,7 +35,8 @@ use Rattle.session.specs.declared.Step.{Step}
 use Rattle.session.specs.Record.{keysIn, standing, stateIn, isCheck, closedFaults, countsClosed}
 use Rattle.session.specs.Calls.{freshOf, startOf, pieceFaults, fedOf, pieceOf, endFaults, finishFaults, tagIn, callsIn, finishOf, finishCheckFaults, judgedOf, finishCheckOf}
 use Rattle.session.proofs.Stood.{stood}
-use Rattle.session.proofs.Joined.{start-stood}
+use Rattle.session.proofs.Answers.{of-step, chosen-alike}
+use Rattle.session.proofs.Joined.{of-end, start-stood}
 use Rattle.session.proofs.Run.{Started, Pieced, Finished, FinishedCheck}
 use Rattle.session.proofs.start.Kinds as start-k
 use Rattle.session.proofs.Session.piece.Kinds as piece-k
@@ -67,26 +67,6 @@ withKeys k s = record {
 -- a step with other bytes in place of its record's keys
 abbrev withKeysIn : List ℕ → Step → Step
 withKeysIn k r = record { answer = r .answer; session = withKeys k (r .session) }
-
--- what is chosen by the number of the first fault: neither the answer nor the room depends on the record that a refusal hands back
-module _ (n : ℕ) where
-  refused : Session → Step
-  refused r = record { answer = Refused n; session = r }
-
-  pieces : (k : List ℕ) (b : Bool) (good : Step) (p : Session) → pick b (withKeysIn k good) (withKeysIn k (refused p)) ≡ withKeysIn k (pick b good (refused p))
-  unfolding pick
-  pieces k true good p = refl
-  pieces k false good p = refl
-
-  checks : (b : Bool) (good : Step) (p q : Session) → pick b good (refused p) .answer ≡ pick b good (refused q) .answer
-  unfolding pick refused
-  checks true good p q = refl
-  checks false good p q = refl
-
-  rooms : (b : Bool) (good : Step × List ℕ) (room : List ℕ) (p q : Session) → (pick b good (refused p, room) .0 .answer ≡ pick b good (refused q, room) .0 .answer) × (pick b good (refused p, room) .1 ≡ pick b good (refused q, room) .1)
-  unfolding pick refused
-  rooms true good room p q = (refl, refl)
-  rooms false good room p q = (refl, refl)
 
 module _ (s : Session) (k : List ℕ) (master : s .agreement .master ≡ true) (alone : row (algorithmAt (s .agreement .algorithm)) .third ≡ false) (same : front k ≡ front (s .keys)) where
   abbrev A : Agreement
@@ -127,16 +107,17 @@ module _ (s : Session) (k : List ℕ) (master : s .agreement .master ≡ true) (
   end-faults other ten = rw closed-same refl
 
   pub piece-unread : (bytes : List ℕ) (bits : ℕ) → pieceOf (withKeys k s) bytes bits ≡ withKeysIn k (pieceOf s bytes bits)
-  unfolding pieceOf refused
-  piece-unread bytes bits = rw (piece-faults (length bytes) bits, fed-same (bitsOf bytes bits)) (pieces _ k _ _ s)
+  unfolding pieceOf
+  piece-unread bytes bits = rw (piece-faults (length bytes) bits, fed-same (bitsOf bytes bits)) (sym (pick-ap (withKeysIn k) _ _ _))
 
+  -- neither the answer nor the room depends on the record that a refusal hands back
   pub finish-unread : (room : List ℕ) → let other = finishOf (withKeys k s) room in let own = finishOf s room in (other .0 .answer ≡ own .0 .answer) × (other .1 ≡ own .1)
-  unfolding finishOf finishFaults withKeys refused
-  finish-unread room = rw (end-faults (isCheck (s .purpose)) (roomShort (A .m) (length room)), tag-same, calls-same) (rooms _ _ _ room (withKeys k s) s)
+  unfolding finishOf finishFaults withKeys
+  finish-unread room = rw (end-faults (isCheck (s .purpose)) (roomShort (A .m) (length room)), tag-same, calls-same) (chosen-alike of-end _ refl refl, chosen-alike (λ (r : Step × List ℕ). r .1) _ refl refl)
 
   pub check-unread : finishCheckOf (withKeys k s) .answer ≡ finishCheckOf s .answer
-  unfolding finishCheckOf finishCheckFaults judgedOf withKeys refused
-  check-unread = rw (end-faults (not (isCheck (s .purpose))) false, tag-same, calls-same) (checks _ _ _ (withKeys k s) s)
+  unfolding finishCheckOf finishCheckFaults judgedOf withKeys
+  check-unread = rw (end-faults (not (isCheck (s .purpose))) false, tag-same, calls-same) (chosen-alike of-step _ refl refl)
 
 -- ---- and so of every answer that the contracts allow
 

@@ -2,12 +2,12 @@
 -- and padding 1, sixteen bytes come, a finish gets 9 and hands the record back, one bit more comes, and the next finish makes the tag
 -- of the 129 bits with four calls. So the theorems about runs with refused calls are about something (`nine-first`, `then-made`).
 -- Assumes nothing.
-use mathlib.Core.Path.{_≡_, refl, sym, ap, ap₂, _∙_, subst}
+use mathlib.Core.Path.{_≡_, refl, sym, ap, ap₂, _∙_}
 use mathlib.Core.Bool.{true, false}
 use mathlib.Core.List.{List, [], _∷_, _++_, map, append-nil}
-use Prim.Native.Nat.{ℕ, _+_, _*_, _≤_}
+use Prim.Native.Nat.{ℕ, _+_, _*_}
 use native.Mathlib.Omega.{arith}
-use lib.ListN.{length, replicate, length-append}
+use lib.ListN.{length, replicate}
 use lib.Seq.{take-all}
 use Rattle.bits.specs.Choice.{pick}
 use Rattle.bits.specs.Str.{Bits, bytesBits, zeros}
@@ -15,16 +15,12 @@ use Rattle.bits.proofs.Faults.{Clear, first-clear, here, later, given-first}
 use Rattle.bits.proofs.Packed.{length-bytesBits}
 use Rattle.cipher.specs.Cipher.{Cipher}
 use Rattle.cipher.specs.Ciphers.{cipherAt}
-use Rattle.cipher.proofs.Laws.{lawful-at}
 use Rattle.mac.specs.declared.Row.{Row}
 use Rattle.mac.specs.Padding.{methodAt, complete, gap, prefix, suffix, blockCount}
-use Rattle.mac.specs.Algorithm.{algorithmAt, row}
+use Rattle.mac.specs.Algorithm.{algorithmAt}
 use Rattle.mac.specs.Tag.{bitsOf, bytesFor}
 use Rattle.mac.specs.Session.{joined}
 use Rattle.mac.proofs.TagBytes.{length-bitsOf, bitsOf-append}
-use Rattle.mac.proofs.Derive.{from-count}
-use Rattle.keys.proofs.GivenKeys.{unpack-calls}
-use Rattle.settings.specs.InUse.{unpacked}
 use Rattle.settings.specs.Answers.{numberOf, settingsOf}
 use Rattle.settings.specs.declared.Agreement.{Agreement}
 use Rattle.settings.specs.declared.Outcome.{Outcome}
@@ -34,6 +30,7 @@ use Rattle.message.specs.Faults.{tooFewBlocks, roomShort}
 use Rattle.tag.specs.OneCall.{oneCallFaults, makeOf}
 use Rattle.tag.proofs.Making.{one-call-numbered}
 use Rattle.tag.proofs.Numbers.{made-of, make-sound}
+use Rattle.tag.proofs.SameUse.{listed-count}
 use Rattle.session.specs.declared.Purpose.the-variants.{Making}
 use Rattle.session.specs.declared.Session.{Session}
 use Rattle.session.specs.declared.Step.{Step}
@@ -59,9 +56,6 @@ module _ (s : List ℕ) (m : ℕ) (block : List ℕ) (byte : ℕ) (room : List �
 
   abbrev begun : Session
   begun = startOf (four m) s 129 .session
-
-  long-all : length all ≡ 17
-  long-all = omega (arith, length-append block (byte ∷ []))
 
   -- sixteen bytes are those of 128 bits
   fits : length block ≡ bytesFor 128
@@ -122,10 +116,4 @@ module _ (s : List ℕ) (m : ℕ) (block : List ℕ) (byte : ℕ) (room : List �
   unfolding blockCount prefix suffix gap complete zeros pick methodAt algorithmAt cipherAt
   four-calls =
       ap (λ (r : Outcome × List ℕ). r .0) (made-of (four m) s all 129 room u)
-      ∙ ap Made (from-count (cipherAt 1) (algorithmAt 4) (methodAt 1) (unpacked (four m) s) m (bitsOf all 129) (lawful-at 1) two ∙ ap₂ (λ (u k : ℕ). u + (blockCount (methodAt 1) (cipherAt 1 .n) k + 2)) (unpack-calls false 4 s) long)
-    where
-      long : length (bitsOf all 129) ≡ 129
-      long = length-bitsOf all 129 (omega (arith, long-all))
-
-      two : row (algorithmAt 4) .least ≤ blockCount (methodAt 1) (cipherAt 1 .n) (length (bitsOf all 129))
-      two = subst (λ (k : ℕ). 2 ≤ blockCount (methodAt 1) (cipherAt 1 .n) k) (sym long) (omega arith)
+      ∙ ap Made (listed-count (four m) s all 129 room (make-sound (four m) s all 129 room u))

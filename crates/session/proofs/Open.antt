@@ -1,5 +1,6 @@
 -- No refusal means all that its tests ask: of a record that does not count as closed (`opens`), of a start (`declared-few`), of an
--- accepted piece (`taken`) and of a finish that is not refused (`ended`). Each is read off its list of tests, all of which say no.
+-- accepted piece (`taken`) and of a finish that is not refused (`ended`). Each is read off its list of tests, all of which say no; `declared-few` is
+-- what the test of a start says of the length that it keeps.
 -- Assumes nothing.
 use mathlib.Core.Path.{_≡_, refl, sym, ap, _∙_}
 use mathlib.Core.Bool.{Bool, true, false, not, _&&_, false≢true}
@@ -72,13 +73,17 @@ pub record Open (s : Session) : Type 0 where
   pub within : s .agreement .padding ≡ 3 → s .total ≤ s .declared
   pub clean : filledBlock (leftmost (heldBits (cipherAt 1 .n) (s .total)) (bytesBits (s .hold .held))) ≡ bytesBits (s .hold .held)
 
-pub closed-numbered : (s : Session) → Numbered (closedFaults s)
+closed-numbered : (s : Session) → Numbered (closedFaults s)
 unfolding closedFaults
 closed-numbered s = with refl (with refl (with refl (with refl (with refl (with refl all)))))
 
+pub open-clear : (s : Session) → countsClosed s ≡ false → Clear (closedFaults s)
+unfolding countsClosed
+open-clear s e = first-clear (closedFaults s) (closed-numbered s) (eqb-true _ 0 (not-false _ e))
+
 pub opens : (s : Session) → countsClosed s ≡ false → Open s
-unfolding countsClosed closedFaults settingsUnsound tooManyBits declaredTooLong passesDeclared strayBit
-opens s e = go (first-clear (closedFaults s) (closed-numbered s) (eqb-true _ 0 (not-false _ e)))
+unfolding closedFaults settingsUnsound tooManyBits declaredTooLong passesDeclared strayBit
+opens s e = go (open-clear s e)
   where
     go : Clear (closedFaults s) → Open s
     go (passed unfit (passed unsound (passed many (passed long (passed past (passed stray done)))))) =
@@ -152,17 +157,9 @@ module _ (s : Session) (other ten : Bool) (e : firstOf (endFaults s other ten) �
         enough = nine;
       }
 
-  -- the session is not for the other purpose
-  pub own-purpose : other ≡ false
+  no-ten : ten ≡ false
   unfolding endFaults
-  own-purpose = go end-clear
-    where
-      go : Clear (endFaults s other ten) → other ≡ false
-      go (passed shut (passed mine rest)) = mine
-
-  pub no-tenth : ten ≡ false
-  unfolding endFaults
-  no-tenth = go end-clear
+  no-ten = go end-clear
     where
       go : Clear (endFaults s other ten) → ten ≡ false
       go (passed shut (passed mine (passed twelve (passed nine (passed roomy done))))) = roomy
@@ -170,4 +167,4 @@ module _ (s : Session) (other ten : Bool) (e : firstOf (endFaults s other ten) �
 -- where a tag is made, there is room for it
 pub room-wide : (s : Session) (room : ℕ) → firstOf (finishFaults s room) ≡ 0 → bytesFor (s .agreement .m) ≤ room
 unfolding finishFaults roomShort
-room-wide s room e = ltb-false room (bytesFor (s .agreement .m)) (no-tenth s _ _ e)
+room-wide s room e = ltb-false room (bytesFor (s .agreement .m)) (no-ten s _ _ e)

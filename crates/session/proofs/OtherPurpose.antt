@@ -1,6 +1,6 @@
 -- What the purpose of a record decides and what it does not. A finish of the other purpose gets 11 and hands back the very record, whatever
--- else it holds (`other-finish`, `other-check`). A record of the right purpose is finished as before there were two: by the faults 11, 12,
--- 9 and 10 alone (`as-before`). Nothing else reads purpose or expected tag: a piece does the same to the record of any purpose
+-- else it holds (`other-finish`, `other-check`). A record whose purpose is making is finished as before there were two: by the faults
+-- 11, 12, 9 and 10 alone (`as-before`). Nothing else reads purpose or expected tag: a piece does the same to the record of any purpose
 -- (`piece-aimed`, `piece-keeps`), the expected bytes have no part in making a tag (`finish-aimed`), and those past the agreed bits none in checking
 -- one (`check-aimed`).
 -- Assumes nothing.
@@ -12,6 +12,7 @@ use lib.Dec.{eqb}
 use lib.ListN.{length, take, drop}
 use Rattle.bits.specs.Choice.{pick, _given_, firstOf}
 use Rattle.bits.specs.Str.{sameBytes}
+use Rattle.bits.proofs.Choice.{pick-ap, either-way}
 use Rattle.mac.specs.Tag.{bitsOf, bytesFor, tagBytes}
 use Rattle.settings.specs.Answers.{settingsOf}
 use Rattle.settings.specs.declared.Agreement.{Agreement}
@@ -24,17 +25,14 @@ use Rattle.session.specs.declared.Session.{Session}
 use Rattle.session.specs.declared.Step.{Step}
 use Rattle.session.specs.Record.{cleared, stateIn, aimed, isCheck, closedFaults, countsClosed}
 use Rattle.session.specs.Calls.{pieceFaults, fedOf, pieceOf, fallsShort, endFaults, finishFaults, finishCheckFaults, tagIn, callsIn, finishOf, judgedOf, finishCheckOf}
+use Rattle.session.proofs.Answers.{of-step, chosen-alike}
 use Rattle.session.proofs.Purposes.{aimed-fed, aimed-piece, aimed-end}
 
 module _ (s : Session) where
   -- closed or not, 11 is the first
   other-first : (ten : Bool) → firstOf (endFaults s true ten) ≡ 11
   unfolding endFaults firstOf pick
-  other-first ten = go (countsClosed s)
-    where
-      go : (b : Bool) → _≡_ {A = ℕ} (pick b 11 11) 11
-      go true = refl
-      go false = refl
+  other-first ten = either-way (λ (k : ℕ). k) (countsClosed s) refl refl
 
   pub other-finish : s .purpose ≡ Checking → (room : List ℕ) → finishOf s room ≡ (record { answer = Refused 11; session = s }, room)
   unfolding finishOf finishFaults isCheck pick
@@ -75,20 +73,14 @@ abbrev pub onward : Purpose → List ℕ → Step → Step
 onward p e r = record { answer = r .answer; session = aimed p e (r .session) }
 
 pub piece-aimed : (p : Purpose) (e : List ℕ) (s : Session) (bytes : List ℕ) (bits : ℕ) → pieceOf (aimed p e s) bytes bits ≡ onward p e (pieceOf s bytes bits)
-unfolding pieceOf pick
+unfolding pieceOf
 piece-aimed p e s bytes bits =
     ap (λ (n : ℕ). pick (eqb n 0) (record { answer = Accepted; session = fedOf (aimed p e s) (bitsOf bytes bits) }) (record { answer = Refused n; session = aimed p e s })) (ap firstOf (aimed-piece p e s (length bytes) bits))
     ∙ ap (λ (t : Session). pick (eqb no 0) (record { answer = Accepted; session = t }) (record { answer = Refused no; session = aimed p e s })) (aimed-fed p e s (bitsOf bytes bits))
-    ∙ go (eqb no 0)
+    ∙ sym (pick-ap (onward p e) (eqb no 0) (record { answer = Accepted; session = fedOf s (bitsOf bytes bits) }) (record { answer = Refused no; session = s }))
   where
     no : ℕ
     no = firstOf (pieceFaults s (length bytes) bits)
-
-    go : (b : Bool)
-        → pick b (record { answer = Accepted; session = aimed p e (fedOf s (bitsOf bytes bits)) }) (record { answer = Refused no; session = aimed p e s })
-        ≡ onward p e (pick b (record { answer = Accepted; session = fedOf s (bitsOf bytes bits) }) (record { answer = Refused no; session = s }))
-    go true = refl
-    go false = refl
 
 -- so a piece, refused or not, keeps both
 pub piece-keeps : (s : Session) (bytes : List ℕ) (bits : ℕ) → (pieceOf s bytes bits .session .purpose ≡ s .purpose) × (pieceOf s bytes bits .session .expected ≡ s .expected)
@@ -102,22 +94,13 @@ abbrev pub outcome : Step × List ℕ → Outcome × List ℕ
 outcome r = (r .0 .answer, r .1)
 
 pub finish-aimed : (e : List ℕ) (s : Session) (room : List ℕ) → s .purpose ≡ Making → outcome (finishOf (aimed Making e s) room) ≡ outcome (finishOf s room)
-unfolding aimed countsClosed closedFaults tagIn stateIn callsIn pick
-finish-aimed e s room mine = ap outcome (as-before (aimed Making e s) room refl) ∙ go (eqb (fault s room) 0) ∙ sym (ap outcome (as-before s room mine))
-  where
-    made : Outcome × List ℕ
-    made = (Made (callsIn s), tagBytes (tagIn s) ++ drop (bytesFor (s .agreement .m)) room)
-
-    go : (b : Bool)
-        → outcome (pick b (record { answer = made .0; session = cleared }, made .1) (record { answer = Refused (fault s room); session = aimed Making e s }, room))
-        ≡ outcome (pick b (record { answer = made .0; session = cleared }, made .1) (record { answer = Refused (fault s room); session = s }, room))
-    go true = refl
-    go false = refl
+unfolding aimed countsClosed closedFaults tagIn stateIn callsIn
+finish-aimed e s room mine = ap outcome (as-before (aimed Making e s) room refl) ∙ chosen-alike outcome (eqb (fault s room) 0) refl refl ∙ sym (ap outcome (as-before s room mine))
 
 pub check-aimed : (e : List ℕ) (s : Session) → s .purpose ≡ Checking → take (bytesFor (s .agreement .m)) e ≡ take (bytesFor (s .agreement .m)) (s .expected)
     → finishCheckOf (aimed Checking e s) .answer ≡ finishCheckOf s .answer
-unfolding finishCheckOf finishCheckFaults judgedOf pick aimed tagIn callsIn stateIn
-check-aimed e s mine same = ap (λ (n : ℕ). answer (aimed Checking e s) n) faults ∙ go (eqb no 0)
+unfolding finishCheckOf finishCheckFaults judgedOf aimed tagIn callsIn stateIn
+check-aimed e s mine same = ap (λ (n : ℕ). answer (aimed Checking e s) n) faults ∙ chosen-alike of-step (eqb no 0) judged refl
   where
     no : ℕ
     no = firstOf (finishCheckFaults s)
@@ -130,9 +113,3 @@ check-aimed e s mine same = ap (λ (n : ℕ). answer (aimed Checking e s) n) fau
 
     judged : judgedOf (aimed Checking e s) ≡ judgedOf s
     judged = ap (λ (w : List ℕ). pick (sameBytes w (tagBytes (tagIn s))) (Yes (callsIn s)) (No (callsIn s))) same
-
-    go : (b : Bool)
-        → pick {A = Step} b (record { answer = judgedOf (aimed Checking e s); session = cleared }) (record { answer = Refused no; session = aimed Checking e s }) .answer
-        ≡ pick {A = Step} b (record { answer = judgedOf s; session = cleared }) (record { answer = Refused no; session = s }) .answer
-    go true = judged
-    go false = refl

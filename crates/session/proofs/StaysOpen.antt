@@ -7,7 +7,7 @@ use mathlib.Core.Bool.{Bool, true, false, not, _&&_}
 use mathlib.Core.List.{List, []}
 use Prim.Native.Nat.{ℕ, _+_, _%_, _≤_}
 use native.Mathlib.Omega.{arith}
-use borrow.Author.Tests.{eq-eqb, eqb-true, le-ltb, not-false}
+use borrow.Author.Tests.{eq-eqb, eqb-true, le-ltb}
 use lib.Dec.{eqb, ltb}
 use lib.ListN.{length}
 use Rattle.bits.specs.Choice.{pick}
@@ -39,7 +39,7 @@ use Rattle.session.specs.declared.Session.{Session}
 use Rattle.session.specs.declared.Step.{Step}
 use Rattle.session.specs.Record.{keysIn, stateIn, standing, aimed, phaseAt, phaseUnfit, settingsUnsound, declaredTooLong, passesDeclared, closedFaults, countsClosed}
 use Rattle.session.specs.Calls.{startFaults, freshOf, declaredAt, startOf, startCheckOf, stepsIn, pieceFaults, fedOf}
-use Rattle.session.proofs.Open.{closed-numbered, Taken, taken, piece-none}
+use Rattle.session.proofs.Open.{open-clear, Taken, taken, piece-none}
 use Rattle.session.proofs.Answers.{start-faults, start-numbered}
 use Rattle.session.proofs.Purposes.{aimed-closed}
 use Rattle.session.proofs.Stood.{stood, held-clean, stood-clean}
@@ -56,7 +56,7 @@ three-no p b h = go (eqb p 3) refl
     go false e = refl
 
 -- what a length does not do, the length that is kept of it does not do
-kept-no : (p d : ℕ) (test : ℕ → Bool) → eqb p 3 && test d ≡ false → eqb p 3 && test (declaredAt p d) ≡ false
+pub kept-no : (p d : ℕ) (test : ℕ → Bool) → eqb p 3 && test d ≡ false → eqb p 3 && test (declaredAt p d) ≡ false
 unfolding declaredAt pick
 kept-no p d test = go (eqb p 3)
   where
@@ -76,10 +76,6 @@ phase-fits l = go (eqb (l % 8) 0) refl
 runs : (s : Session) → Clear (closedFaults s) → Running s
 unfolding countsClosed
 runs s c = ap (λ (k : ℕ). not (eqb k 0)) (clear-first c)
-
-pub running-clear : (s : Session) → Running s → Clear (closedFaults s)
-unfolding countsClosed
-running-clear s e = first-clear (closedFaults s) (closed-numbered s) (eqb-true _ 0 (not-false _ e))
 
 -- ---- after an accepted start
 
@@ -136,7 +132,7 @@ module _ (s : Session) (hv : length (s .hold .value) ≡ 16) (hh : length (s .ho
 
   fed-open : (q : Offered) → Clear (pieceFaults s (length (q .bytes)) (q .bits)) → length (bitsIn q) ≡ q .bits → Running (fedOf s (bitsIn q))
   unfolding pieceFaults closedFaults fedOf standing holdOf
-  fed-open q (passed shut (passed late (passed seven (passed eight (passed twelve done))))) long = go (running-clear s shut)
+  fed-open q (passed shut (passed late (passed seven (passed eight (passed twelve done))))) long = go (open-clear s shut)
     where
       l : ℕ
       l = s .total + length (bitsIn q)

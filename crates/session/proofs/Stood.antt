@@ -1,11 +1,10 @@
 -- The record of a session after the bits x: it stands for the definition's state after x (crate mac). So a piece leads to the next
 -- such record, and an end gives the definition's tag, with as many calls as the definition's list has.
 -- Assumes nothing.
-use mathlib.Core.Path.{_≡_, refl, sym, ap, ap₂, _∙_, subst}
+use mathlib.Core.Path.{_≡_, refl, sym, ap, ap₂, _∙_}
 use mathlib.Core.Bool.{false, not}
 use mathlib.Core.List.{List, [], _++_, append-nil}
 use Prim.Native.Nat.{ℕ, zero, suc, _+_, _≤_, _<_}
-use native.Mathlib.Nat.{zero-add}
 use native.Mathlib.Omega.{arith}
 use lib.ListN.{length, take, replicate, length-append}
 use Rattle.bits.specs.Choice.{pick}
@@ -33,7 +32,7 @@ use Rattle.settings.specs.declared.Agreement.{Agreement}
 use Rattle.chain.specs.declared.Hold.{Hold}
 use Rattle.chain.specs.Chain.{heldBits, holdOf}
 use Rattle.chain.proofs.Feeding.{held-le}
-use Rattle.chain.proofs.Standing.{quiet, absorb-quiet, Reached, stands, reached-next, reached-opened, keeps, closes}
+use Rattle.chain.proofs.Standing.{quiet, absorb-quiet, Reached, stands, reached-fed, closes}
 use Rattle.session.specs.declared.Purpose.the-variants.{Making}
 use Rattle.session.specs.declared.Session.{Session}
 use Rattle.session.specs.Record.{stateIn, phaseAt, standing, aimed, strayBit}
@@ -105,7 +104,7 @@ module _ (A : Agreement) (s : List ℕ) (d : ℕ) where
   stood-making x = refl
 
   reached : (x : Bits) → Reached n p (length x) (after x)
-  reached x = subst (λ (l : ℕ). Reached n p l (after x)) (zero-add (length x)) (reached-next n some S (keeps 1 a p K) p 0 beginning (reached-opened 1 a p K (declaredAt p d)) x)
+  reached x = reached-fed 1 a p K (declaredAt p d) (length x) x refl
 
   state-is : (x : Bits) → stateIn (stood x) ≡ quiet (after x)
   unfolding stood stateIn standing freshOf

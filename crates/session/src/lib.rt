@@ -190,22 +190,29 @@ fn declared_at(padding: usize, declared: usize) -> usize
     0
 }
 
+// The round keys of keys in use.
+fn rounds_of(t: &cipher::Table, algorithm: usize, keys: keys::KeyBlocks) -> chain::Rounds
+    requires { ⌜ now t ≡ tableAt 1 ⌝ }
+    ensures { λ r. ⌜ roundsBits r ≡ roundsOf 1 algorithm (keyBits keys) ⌝ }
+{
+    chain::expand(t, cipher::SM4, algorithm, keys)
+}
+
 fn fresh(
     agreement: settings::Agreement,
-    s: settings::Settings,
     given: [u8; 32],
     keys: keys::KeyBlocks,
     declared: usize,
 ) -> Session
-    requires { ⌜ (s ≡ settingsOf agreement) × (declared ≤ 8388608) ⌝ }
+    requires { ⌜ declared ≤ 8388608 ⌝ }
     ensures { λ r. ⌜ r ≡ freshOf agreement given (keyBits keys) declared ⌝ }
 {
     let t = cipher::table(cipher::SM4);
-    let rounds = chain::expand(&t, cipher::SM4, s.algorithm, keys);
+    let named = settings::Settings::of(agreement);
     let k = chain::Keyed {
         cipher: cipher::SM4,
-        settings: s,
-        rounds,
+        settings: named,
+        rounds: rounds_of(&t, named.algorithm, keys),
     };
     let hold = chain::begin(&t, k, declared as u32);
     Session {
@@ -223,19 +230,17 @@ fn fresh(
 // A session begins under the settings of an agreement that was found sound.
 fn start_under(
     agreement: settings::Agreement,
-    s: settings::Settings,
     given: [u8; 32],
     keys: keys::KeyBlocks,
     declared: usize,
 ) -> Step
-    requires { ⌜ s ≡ settingsOf agreement ⌝ }
     ensures { λ r. ⌜ r ≡ startUnder agreement given (keyBits keys) declared ⌝ }
 {
     let padding = agreement.padding;
     if declared_too_long(padding, declared) {
         return refused_start(8);
     }
-    let first = fresh(agreement, s, given, keys, declared_at(padding, declared));
+    let first = fresh(agreement, given, keys, declared_at(padding, declared));
     Step {
         answer: settings::Outcome::Accepted,
         session: first,
@@ -251,8 +256,8 @@ pub fn start(agreement: settings::Agreement, keys: &[u8], declared: usize) -> St
     let checked = settings::Settings::checked(agreement, keys.len(), used);
     match checked {
         settings::Checked::Unsound(no) => refused_start(no),
-        settings::Checked::Sound(s) => {
-            start_under(agreement, s, keys::kept(keys), used, declared)
+        settings::Checked::Sound(_) => {
+            start_under(agreement, keys::kept(keys), used, declared)
         }
     }
 }
@@ -323,14 +328,6 @@ fn unpacked_in(s: Session) -> keys::Unpacked
     settings::unpack(agreement, &given)
 }
 
-// The round keys of its keys.
-fn rounds_of(t: &cipher::Table, s: Session, keys: keys::KeyBlocks) -> chain::Rounds
-    requires { ⌜ (now t ≡ tableAt 1) × (keyBits keys ≡ keysIn s) ⌝ }
-    ensures { λ r. ⌜ roundsBits r ≡ roundsOf 1 (s .agreement .algorithm) (keysIn s) ⌝ }
-{
-    chain::expand(t, cipher::SM4, s.agreement.algorithm, keys)
-}
-
 // ---- piece
 
 fn late_bits(total: usize, bits: usize) -> bool
@@ -364,10 +361,11 @@ fn fed(s: Session, keys: keys::KeyBlocks, bytes: &[u8], bits: usize) -> Session
 {
     let t = cipher::table(cipher::SM4);
     let agreement = s.agreement;
+    let named = settings::Settings::of(agreement);
     let k = chain::Keyed {
         cipher: cipher::SM4,
-        settings: settings::Settings::of(agreement),
-        rounds: rounds_of(&t, s, keys),
+        settings: named,
+        rounds: rounds_of(&t, named.algorithm, keys),
     };
     let hold = s.hold;
     let next = chain::feed(&t, k, hold, s.total, bytes, bits);
@@ -399,7 +397,7 @@ fn falls_short(padding: usize, declared: usize, total: usize) -> bool
     false
 }
 
-// The refusal of a finish; told are whether its purpose is not the session's, and the tenth fault.
+// The refusal of a finish; told are whether its purpose is not the session's, and fault 10.
 fn finish_refusal(s: Session, keys: keys::KeyBlocks, other: bool, ten: bool) -> usize
     requires { ⌜ keyBits keys ≡ keysIn s ⌝ }
     ensures { λ r. ⌜ r ≡ firstOf (endFaults s other ten) ⌝ }
@@ -422,10 +420,11 @@ fn tag_block(s: Session, keys: keys::KeyBlocks) -> [u8; 16]
 {
     let t = cipher::table(cipher::SM4);
     let agreement = s.agreement;
+    let named = settings::Settings::of(agreement);
     let k = chain::Keyed {
         cipher: cipher::SM4,
-        settings: settings::Settings::of(agreement),
-        rounds: rounds_of(&t, s, keys),
+        settings: named,
+        rounds: rounds_of(&t, named.algorithm, keys),
     };
     let hold = s.hold;
     chain::close(&t, k, hold, s.total)

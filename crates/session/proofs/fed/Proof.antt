@@ -19,9 +19,7 @@ use Rattle.session.proofs.fed.Tie as tie
 
 -- the round keys are those of the record's keys, under its settings
 rounds : (c : tie.After-rounds-of) → roundsBits (c .rounds-of .result) ≡ roundsOf 1 (c .before .before .of .result .algorithm) (keysIn (c .before .before .before .before .before .before .args .s))
-rounds c =
-    let s = c .before .before .before .before .before .before .args .s in
-    c .rounds-of .ensures ∙ ap (λ (S : Settings). roundsOf 1 (S .algorithm) (keysIn s)) (sym (c .before .before .of .ensures))
+rounds c = c .rounds-of .ensures ∙ ap (roundsOf 1 (c .before .before .of .result .algorithm)) (c .before .before .before .before .before .before .pre .0)
 
 feed-requires : tie.Need-feed-requires
 feed-requires c κs =

@@ -1,12 +1,12 @@
 -- `judged` meets its contract: the comparison with the tag's bytes (`judged-is`).
 -- Assumes nothing.
-use mathlib.Core.Path.{_≡_, sym, ap, _∙_}
-use mathlib.Core.Bool.{Bool, true, false}
-use Prim.Native.Nat.{ℕ, _≤_}
+use mathlib.Core.Path.{_≡_, refl, sym, _∙_}
+use Prim.Native.Nat.{_≤_}
 use native.Mathlib.Omega.{arith}
 use lib.ListN.{length}
 use lib.Seq.{length-take-le}
 use Rattle.bits.specs.Choice.{pick}
+use Rattle.bits.proofs.Choice.{hit, miss}
 use Rattle.bits.proofs.Same.{Bytes}
 use Rattle.mac.specs.Tag.{bytesFor}
 use Rattle.settings.specs.declared.Outcome.the-variants.{Yes, No}
@@ -60,16 +60,11 @@ answer c =
     let s = start .args .s in
     judged-is s (blocks start .0) (blocks start .1) (start .pre .0) (counted .before .tag-block .result) (sized .bytes-for .result) (counted .calls-in .result) (c .equal-bytes .result) (search needs) (expects start) (counted .before .tag-block .ensures) (sized .bytes-for .ensures) (counted .calls-in .ensures) (c .equal-bytes .ensures)
 
-chosen : (b d : Bool) (n : ℕ) → b ≡ d → pick d (Yes n) (No n) ≡ pick b (Yes n) (No n)
-chosen b d n e = ap (λ (x : Bool). pick x (Yes n) (No n)) (sym e)
-
 returns : tie.Need-returns
-unfolding pick
-returns c = chosen _ true _ (c .if1 .taken) ∙ answer (c .before)
+returns c = hit _ _ _ _ (c .if1 .taken) refl ∙ answer (c .before)
 
 returns-2 : tie.Need-returns-2
-unfolding pick
-returns-2 c = chosen _ false _ (c .if1 .left) ∙ answer (c .before)
+returns-2 c = miss _ _ _ _ (c .if1 .left) refl ∙ answer (c .before)
 
 pub judged-spec : {M : Type 1} → statement M
 judged-spec =

@@ -13,9 +13,7 @@ keys-are : (c : tie.Start) → keyBlocks 1 (c .args .keys) ≡ keyBits (c .args 
 keys-are c = whole-keys 1 (c .args .keys) sm4-key (search needs) (search needs) (search needs)
 
 returns : tie.Need-returns
-returns c =
-    let start = c .before in
-    c .expand .ensures ∙ ap (roundsOf 1 (start .args .s .agreement .algorithm)) (keys-are start ∙ start .pre .1)
+returns c = c .expand .ensures ∙ ap (roundsOf 1 (c .before .args .algorithm)) (keys-are (c .before))
 
 pub rounds-of-spec : {M : Type 1} → statement M
 rounds-of-spec = tie.close (tie.spec (λ c κs. search needs) returns)

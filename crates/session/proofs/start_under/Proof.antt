@@ -21,7 +21,7 @@ fresh-requires : tie.Need-fresh-requires
 fresh-requires c κs =
     let at = c .before .before in
     let a = at .before .args in
-    (at .before .pre, rw (c .declared-at .ensures) (declared-few (a .agreement .padding) (a .declared) (sym (at .declared-too-long .ensures) ∙ c .before .if1 .left)))
+    rw (c .declared-at .ensures) (declared-few (a .agreement .padding) (a .declared) (sym (at .declared-too-long .ensures) ∙ c .before .if1 .left))
 
 returns-2 : tie.Need-returns-2
 unfolding startUnder startedBy firstOf pick

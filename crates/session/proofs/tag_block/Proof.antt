@@ -1,6 +1,6 @@
 -- `tag_block` meets its contract: what `close` ensures at the record's keys and settings.
 -- Assumes nothing.
-use mathlib.Core.Path.{_≡_, sym, ap, _∙_}
+use mathlib.Core.Path.{_≡_, ap, _∙_}
 use Rattle.block.specs.Block.{filledBlock}
 use Rattle.cipher.specs.Cipher.{Cipher}
 use Rattle.cipher.specs.Ciphers.{cipherAt}
@@ -16,9 +16,7 @@ use Rattle.session.proofs.tag_block.Tie as tie
 
 -- the round keys are those of the record's keys, under its settings
 rounds : (c : tie.After-rounds-of) → roundsBits (c .rounds-of .result) ≡ roundsOf 1 (c .before .before .of .result .algorithm) (keysIn (c .before .before .before .before .before .args .s))
-rounds c =
-    let s = c .before .before .before .before .before .args .s in
-    c .rounds-of .ensures ∙ ap (λ (S : Settings). roundsOf 1 (S .algorithm) (keysIn s)) (sym (c .before .before .of .ensures))
+rounds c = c .rounds-of .ensures ∙ ap (roundsOf 1 (c .before .before .of .result .algorithm)) (c .before .before .before .before .before .pre)
 
 close-requires : tie.Need-close-requires
 close-requires c κs =
