@@ -40,7 +40,7 @@ use Rattle.tag.specs.declared.Restored.{Restored}
 use Rattle.tag.specs.declared.Restored.the-variants.{Filled, Refused}
 use Rattle.tag.specs.OneCall.{oneCallFaults}
 use Rattle.tag.specs.Restore.{bitless, fullOnly, restoreFaults, lostAt, restoredBy, restoreOf, restoreUnder}
-use Rattle.tag.proofs.Making.{unsound-first, sound-first}
+use Rattle.tag.proofs.Making.{bits-held, unsound-first, sound-first}
 
 -- ---- a tag of n bits in sixteen bytes
 
@@ -52,6 +52,7 @@ tag-front t h =
     sixteen : take 16 (t ++ replicate 16 0) ≡ t ++ take (16 - length t) (replicate 16 0)
     sixteen = take-append 16 t (replicate 16 0) ∙ ap (λ (u : List ℕ). u ++ take (16 - length t) (replicate 16 0)) (take-all 16 t (omega (arith, width-at 1)))
 
+-- a tag of the right length, where m is n
 pub tag-whole : (m t : ℕ) → m ≡ n → tagLengthWrong m t ≡ false → 8 * t ≡ n
 unfolding tagLengthWrong bytesFor
 tag-whole m t full h = let size-is = eqb-true t (bytesFor m) (not-false _ h) in omega (arith, size-is, width-at 1)
@@ -99,8 +100,7 @@ module _ (S : Settings) (K : Keys) (message : List ℕ) (l j : ℕ) (tag : List 
           record { fits = fits; whole = tag-whole (S .m) (length tag) full (facts .room); inside = omega (arith, facts .long, fits, full-eights j, whole-bytes, suc-mul j n) }
 
       bits-long : length (bitsOf message l) ≡ l
-      unfolding bytesFor
-      bits-long = length-bitsOf message l (omega (arith, facts .long))
+      bits-long = length-bitsOf message l (bits-held facts)
 
       pub restored-is : (b message′ : List ℕ) → Bytes 16 b → bytesBits b ≡ filledBlock (lostAt S K message l j tag)
           → message′ ≡ take (j * size) message ++ (take size b ++ drop size (drop (j * size) message)) → (Filled, message′) ≡ restoreUnder S K message l j tag
