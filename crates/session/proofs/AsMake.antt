@@ -1,6 +1,6 @@
--- A session and one call over the code: of every answer that the contracts of `start`, `piece`, both finishes and `make` allow. A run
--- that made a tag and a call of `make` with its joined bits, under the same agreement and keys and with a room of the same bytes, have the
--- same answer and leave the same room (`run-as-make`). Where a session that runs is tried, its finish gets 9 exactly where that call
+-- A session and one call over the code: of every answer that the contracts of `start`, `piece`, both finishes and `make` allow. A
+-- run that made a tag and a call of `make` with its joined bits, under the same agreement and keys and with a room of the same bytes,
+-- have the same answer and leave the same room (`run-as-make`). Where a session that runs is tried, its finish gets 9 exactly where that call
 -- does (`nine-as-make`).
 -- Assumes nothing.
 use mathlib.Core.Path.{_≡_, sym, ap, _∙_, subst}

@@ -1,6 +1,6 @@
 -- No refusal means all that its tests ask: of a record that does not count as closed (`opens`), of a start (`declared-few`), of an
--- accepted piece (`taken`) and of a finish that is not refused (`ended`). Each is read off its list of tests, all of which say no; `declared-few` is
--- what the test of a start says of the length that it keeps.
+-- accepted piece (`taken`) and of a finish that is not refused (`ended`). Each is read off its list of tests, all of which say no;
+-- `declared-few` is what the test of a start says of the length that it keeps.
 -- Assumes nothing.
 use mathlib.Core.Path.{_≡_, refl, sym, ap, _∙_}
 use mathlib.Core.Bool.{Bool, true, false, not, _&&_, false≢true}

@@ -1,8 +1,8 @@
--- What the purpose of a record decides and what it does not. A finish of the other purpose gets 11 and hands back the very record, whatever
--- else it holds (`other-finish`, `other-check`). A record whose purpose is making is finished as before there were two: by the faults
--- 11, 12, 9 and 10 alone (`as-before`). Nothing else reads purpose or expected tag: a piece does the same to the record of any purpose
--- (`piece-aimed`, `piece-keeps`), the expected bytes have no part in making a tag (`finish-aimed`), and those past the agreed bits none in checking
--- one (`check-aimed`).
+-- What the purpose of a record decides and what it does not. A finish of the other purpose gets 11 and hands back the very record,
+-- whatever else it holds (`other-finish`, `other-check`). A record whose purpose is making is finished by the faults 11, 12, 9 and 10
+-- alone (`as-before`). Nothing else reads purpose or expected tag: a piece does the same to the record of any purpose (`piece-aimed`,
+-- `piece-keeps`), the expected bytes have no part in making a tag (`finish-aimed`), and those past the agreed bits none in checking one
+-- (`check-aimed`).
 -- Assumes nothing.
 use mathlib.Core.Path.{_≡_, refl, sym, ap, _∙_}
 use mathlib.Core.Bool.{Bool, true, false, not}
@@ -46,7 +46,7 @@ module _ (s : Session) where
       let no : firstOf (endFaults s (not (isCheck (s .purpose))) false) ≡ 11 = ap (λ (p : Purpose). firstOf (endFaults s (not (isCheck p)) false)) e ∙ other-first false in
       rw no refl
 
-  -- a session that makes a tag, as before
+  -- a session that makes a tag
   module _ (room : List ℕ) where
     abbrev fault : ℕ
     fault = firstOf (

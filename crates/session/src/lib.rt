@@ -256,9 +256,7 @@ pub fn start(agreement: settings::Agreement, keys: &[u8], declared: usize) -> St
     let checked = settings::Settings::checked(agreement, keys.len(), used);
     match checked {
         settings::Checked::Unsound(no) => refused_start(no),
-        settings::Checked::Sound(_) => {
-            start_under(agreement, keys::kept(keys), used, declared)
-        }
+        settings::Checked::Sound(_) => start_under(agreement, keys::kept(keys), used, declared),
     }
 }
 
