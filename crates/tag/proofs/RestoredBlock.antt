@@ -38,7 +38,7 @@ use Rattle.tag.specs.declared.Restored.{Restored}
 use Rattle.tag.specs.declared.Restored.the-variants.{Filled, Refused}
 use Rattle.tag.specs.OneCall.{oneCallFaults, checkOf}
 use Rattle.tag.specs.Restore.{fullOnly, restoreFaults, lostAt, withBlock, restoredBy, restoreOf, restoredNumber}
-use Rattle.tag.proofs.Making.{bits-held, one-call-numbered, accepted-settings, accepted-message}
+use Rattle.tag.proofs.Making.{one-call-numbered, accepted-settings, accepted-message}
 use Rattle.tag.proofs.Numbers.{tagged, listed, checkFault, says-yes}
 use Rattle.tag.proofs.Full.{n, size, whole-bytes}
 use Rattle.tag.proofs.Restoring.{tag-whole, full-is}
@@ -115,7 +115,7 @@ module _ (A : Agreement) (s message : List ℕ) (l j : ℕ) (t : List ℕ) where
     facts = taken (settingsOf A) (length message) l _ (accepted-message A s (length message) l _ (ok .checked))
 
     pub holds : l ≤ 8 * length message
-    holds = bits-held facts
+    holds = facts .holds
 
     t-whole : length (bytesBits t) ≡ n
     t-whole = length-bytesBits t ∙ tag-whole (A .m) (length t) (ok .whole) (facts .room)

@@ -40,7 +40,7 @@ use Rattle.tag.specs.declared.Restored.{Restored}
 use Rattle.tag.specs.declared.Restored.the-variants.{Filled, Refused}
 use Rattle.tag.specs.OneCall.{oneCallFaults}
 use Rattle.tag.specs.Restore.{bitless, fullOnly, restoreFaults, lostAt, restoredBy, restoreOf, restoreUnder}
-use Rattle.tag.proofs.Making.{bits-held, unsound-first, sound-first}
+use Rattle.tag.proofs.Making.{unsound-first, sound-first}
 
 -- ---- a tag of n bits in sixteen bytes
 
@@ -100,7 +100,7 @@ module _ (S : Settings) (K : Keys) (message : List ℕ) (l j : ℕ) (tag : List 
           record { fits = fits; whole = tag-whole (S .m) (length tag) full (facts .room); inside = omega (arith, facts .long, fits, full-eights j, whole-bytes, suc-mul j n) }
 
       bits-long : length (bitsOf message l) ≡ l
-      bits-long = length-bitsOf message l (bits-held facts)
+      bits-long = length-bitsOf message l (facts .holds)
 
       pub restored-is : (b message′ : List ℕ) → Bytes 16 b → bytesBits b ≡ filledBlock (lostAt S K message l j tag)
           → message′ ≡ take (j * size) message ++ (take size b ++ drop size (drop (j * size) message)) → (Filled, message′) ≡ restoreUnder S K message l j tag
