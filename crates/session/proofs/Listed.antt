@@ -12,7 +12,7 @@ use Rattle.bits.proofs.Faults.{all, with, every-append}
 use Rattle.settings.specs.Answers.{numberOf, settingsOf}
 use Rattle.settings.specs.declared.Agreement.{Agreement}
 use Rattle.settings.proofs.Sound.{agreement-every}
-use Rattle.settings.proofs.Retired.{Among, among}
+use Rattle.settings.proofs.Listed.{Among, among}
 use Rattle.message.specs.Faults.{tooFewBlocks}
 use Rattle.session.specs.declared.Session.{Session}
 use Rattle.session.specs.declared.Step.{Step}

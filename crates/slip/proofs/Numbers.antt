@@ -19,7 +19,7 @@ use Rattle.bits.proofs.Choice.{pick-ap, chosen-number}
 use Rattle.bits.proofs.Faults.{all, with, every-append, unlisted}
 use Rattle.mac.proofs.OneBlock.{Apart}
 use Rattle.settings.proofs.Sound.{agreement-every}
-use Rattle.settings.proofs.Retired.{Among, among}
+use Rattle.settings.proofs.Listed.{Among, among}
 use Rattle.settings.specs.declared.Agreement.{Agreement}
 use Rattle.fields.specs.Field.{lengthOf, value}
 use Rattle.fields.specs.Layout.{lotAt, lotField, covered}

@@ -16,7 +16,7 @@ use Rattle.mac.specs.Tag.{bytesFor}
 use Rattle.settings.specs.InUse.{inUse, agreementFaults}
 use Rattle.settings.specs.Faults.{settingsRefusal}
 use Rattle.settings.proofs.Sound.{agreement-every, agreement-numbered, sound-size}
-use Rattle.settings.proofs.Retired.{Among, among}
+use Rattle.settings.proofs.Listed.{Among, among}
 use Rattle.settings.specs.declared.Agreement.{Agreement}
 use Rattle.writing.specs.Writing.{Says, saysFaults}
 use Rattle.writing.proofs.Sayable.{Sayable, sayable, says-every, says-numbered}

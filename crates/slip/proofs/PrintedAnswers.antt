@@ -17,7 +17,7 @@ use Rattle.bits.specs.Choice.{oneOf}
 use Rattle.bits.specs.Once.{Allowed}
 use Rattle.bits.proofs.Faults.{unlisted}
 use Rattle.mac.specs.Tag.{bytesFor}
-use Rattle.settings.proofs.Retired.{Among}
+use Rattle.settings.proofs.Listed.{Among}
 use Rattle.settings.specs.declared.Agreement.{Agreement}
 use Rattle.fields.specs.Field.{value}
 use Rattle.fields.specs.Layout.{lotField}

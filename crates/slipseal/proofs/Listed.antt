@@ -7,7 +7,7 @@ use Prim.Native.Nat.{ℕ}
 use contract.Lifetimes.{Lfts}
 use borrow.Fn.Kinds.{Dens}
 use Rattle.settings.specs.Answers.{numberOf}
-use Rattle.settings.proofs.Retired.{Among}
+use Rattle.settings.proofs.Listed.{Among}
 use Rattle.tag.proofs.Listed.{callAnswers, restoreAnswers, make-among, check-among, restore-among}
 use Rattle.session.specs.declared.Step as session-step
 use Rattle.session.proofs.Listed.{startAnswers, startCheckAnswers, pieceAnswers, finishAnswers, finishCheckAnswers, start-among, start-check-among, piece-among, finish-among, finish-check-among}
