@@ -6,7 +6,8 @@
 -- (`gathered-whole`); its lot is read from the record's own bytes (`gathered-lot`). Two ways to cut the same bytes lead to one record
 -- (`one-record`). A proper beginning of an accepted slip gets 20, a proper lengthening 24 (`nothing-short`, `nothing-long`; of any answers
 -- `read-short`, `read-long`, and of what was gathered `gathered-short`, `gathered-long`). And whatever stands in a record that comes in,
--- it counts as the bytes that it holds, and what comes back has a count of 76 at most and zeros past it (`any-record`, `add-sound`).
+-- it counts as the bytes that it holds, and what comes back has a count of 76 at most and zeros past it (`any-record`, `add-sound`);
+-- the number that it gets is one of a slip's (`gathered-answers`).
 -- Assumes nothing.
 use mathlib.Core.Path.{_≡_, refl, sym, ap, _∙_, subst}
 use mathlib.Core.List.{List, [], _∷_, _++_, flatten, append-assoc, append-nil}
@@ -27,13 +28,14 @@ use Rattle.slip.specs.Gathering.{most, held, gatheredOf, addOf}
 use Rattle.slip.specs.Part.{seen, lotPart, lotPartIn}
 use Rattle.slip.specs.Slip.{refusedSlip, readOf}
 use Rattle.settings.specs.declared.Agreement.{Agreement}
+use Rattle.settings.proofs.Listed.{Among}
 use Rattle.slip.specs.declared.Contents.{Contents}
 use Rattle.slip.specs.declared.Gathered.{Gathered}
 use Rattle.slip.specs.declared.Slip.{Slip}
 use Rattle.slip.proofs.Gathering.{held-few, first-alone, holds}
 use Rattle.slip.proofs.Judged.{believed, layout-refused, lot-inside}
 use Rattle.slip.proofs.Whole.{Accepted, Whole, whole}
-use Rattle.slip.proofs.Numbers.{accepted-by, Reading, keysRead, slipRead, read-accepted}
+use Rattle.slip.proofs.Numbers.{slipAnswers, slip-among, accepted-by, Reading, keysRead, slipRead, read-accepted}
 use Rattle.slip.proofs.Enough.{first-76}
 use Rattle.slip.proofs.read.Kinds as one-k
 use Rattle.slip.proofs.lot_in.Kinds as lot-in-k
@@ -208,6 +210,10 @@ module _ (κs : Lfts 1) (a : Dens κs read-k.ps) (y : Asking κs a) where
 
   pub any-record : (g : Gathered) (reads : List (List ℕ)) → Added g reads (recordAsked κs a) → y .result ≡ readOf A keys (held g ++ flatten reads)
   any-record g reads run = y .ensures ∙ read-added A keys g _ reads run
+
+  -- its number is one of a slip's
+  pub gathered-answers : Among slipAnswers (y .result .number)
+  gathered-answers = subst (λ (r : Slip). Among slipAnswers (r .number)) (sym (y .ensures)) (slip-among A keys (held (recordAsked κs a)))
 
   module _ (reads : List (List ℕ)) (run : Gathers reads (recordAsked κs a)) where
     joined-is : y .result ≡ readOf A keys (flatten reads)
