@@ -116,7 +116,6 @@ fn main() {
     println!("{}; {rounds} rounds of CPU time", report::machine());
     println!("All answers agree; the tags of 1 MiB are {} and {}.", hex(&tagged.0), hex(&cmac.0));
 
-    let openssl_only: Vec<&Peer> = openssl.iter().collect();
     let mut lines = [
         work::make_line("make on 1 MiB, algorithm 1, MiB a second", 1, one, key, message, &[]),
         work::session_line("session of 64 KiB pieces over 1 MiB, algorithm 1, MiB a second", key, message),
@@ -131,14 +130,6 @@ fn main() {
             key,
             message,
             tag,
-        ),
-        work::make_line(
-            "make on 1 MiB, algorithm 5 (CMAC), MiB a second",
-            1,
-            five,
-            key,
-            message,
-            &openssl_only,
         ),
         work::slip_line("slips accepted a second", key, slip),
         work::gathered_line("slips gathered from two reads and accepted a second", key, slip, CUT),
