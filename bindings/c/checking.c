@@ -54,7 +54,7 @@ typedef struct starting {
     size_t keys_len, declared, tag_len;
 } starting;
 
-/* Each with every later fault that can be had beside it. The keys are one key twice: good to byte 16. */
+/* Each with every later fault that can be had beside it, and some alone. The keys are one key twice: good to byte 16. */
 static void refused_starts(void)
 {
     const uint64_t far = (uint64_t)1 << 32;

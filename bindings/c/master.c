@@ -182,7 +182,7 @@ static void lengths(void)
         const uint64_t padding = algorithm == 5 || algorithm > 6 ? 4 : 1, m = algorithm == 7 ? 63 : 64;
         const size_t right = algorithm == 2 || algorithm == 6 ? 16 : algorithm == 4 ? 32 : SIZE_MAX;
         const slipseal_agreement a = mastered(algorithm, padding, m);
-        if (algorithm == 7) { /* restore has 3 for it before all others */
+        if (algorithm == 7) { /* restore has 3 for it, before 4 */
             for (len = 0; len <= sizeof keys; len++) {
                 expect(slipseal_start(a, keys, len, 0).answer.number == 4, "algorithm 7 under a master");
             }
@@ -194,7 +194,7 @@ static void lengths(void)
     }
 }
 
-/* 1 to 5, each with every later one that can be had beside it; and which keys must differ: those in use. */
+/* 1 to 5, then 7, 9 and 10, each with every later one that can be had beside it; and which keys must differ: those in use. */
 static void order(void)
 {
     uint8_t keys[33], turned[16];

@@ -58,7 +58,8 @@ static int refused_with(uint64_t number, slipseal_agreement a, const uint8_t *k,
     return slipseal_restore(a, k, k_len, lent, len, bits, block, tag, tag_len) == number && stands(bytes, len);
 }
 
-/* Each block under each G; 41 for the number after the last whole one, the part block of data 2 too; 3 for algorithm 7. */
+/* Each block under each G; 41 for the number after the last whole one, the part block of data 2 too; 3 for algorithm 7 and for tags
+ * of 64 bits. */
 static void annex_a(void)
 {
     FILE *const file = fopen("annex_a.txt", "r");
@@ -146,7 +147,7 @@ typedef struct restoring {
     size_t keys_len, len, bits, block, tag_len;
 } restoring;
 
-/* Each with every later fault that can be had beside it. The keys are one key twice: good to byte 16. */
+/* Each with every later fault that can be had beside it, and some alone. The keys are one key twice: good to byte 16. */
 static void refusals(void)
 {
     const uint64_t far = (uint64_t)1 << 32;
@@ -194,7 +195,7 @@ static void refusals(void)
     expect(refused_with(9, agreed(4, 1, 128), keys, 32, bytes, 16, 128, 0, tag, 16), "which is a whole one");
 }
 
-/* Numbers that a product with 128 or with 16 would turn into that of a block. */
+/* Among them those that a product with 128 or with 16 would turn into that of a block. */
 static void far_numbers(void)
 {
     const size_t far[] = {(size_t)1 << 16, (size_t)1 << 32, (size_t)1 << 57, (size_t)1 << 60, (size_t)1 << 61, (size_t)1 << 63,

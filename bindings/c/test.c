@@ -48,7 +48,7 @@ static void one_call(void)
     expect(is(slipseal_make(agreed(1, 1, 1), key, 16, message, 0, 0, tag, 0), 10, 0, 0), "empty message, empty room");
 }
 
-/* Each number of an agreement arrives whole and in its place: what a narrower type would cut to a good one is refused. */
+/* Algorithm, padding and m arrive whole and in their places: what a narrower type would cut to a good one is refused. */
 static void agreement(void)
 {
     const uint64_t far = (uint64_t)1 << 32;

@@ -46,7 +46,7 @@ def under_master(*agreed):
 
 
 def cases():
-    """Agreement, keys, message, tag and calls of every case known beforehand."""
+    """Agreement, keys, message, tag and calls: A.7, of algorithm 2 what the derived keys make that are handed in, and R8."""
     a_7 = [case for case in annex_a() if case[0].algorithm == 6]
     counts = [calls for calls in (4, 5, 5, 4, 4, 5) for _ in (64, 128)]
     assert len(a_7) == len(counts)
@@ -133,7 +133,7 @@ class Refusals(Case):
         full = agreement if judged == 3 else agreement._replace(m=128)
         restored = number(restore, full, keys, MESSAGE, 0, bytes(16))
         if agreement.algorithm == 7 and restored == 3:
-            restored = judged  # 3 before all others
+            restored = judged  # no full tag: 3 before 4
         for other in (
             restored,
             number(check, agreement, keys, MESSAGE, tag),
@@ -155,7 +155,7 @@ class Refusals(Case):
                     self.assertEqual(self.judged(agreement, bytes(range(length))), 0 if length == right else 4)
 
     def test_the_first_fault_is_told(self):
-        """1 to 5, each with every later one that can be had beside it."""
+        """1 to 5, then 7, 9 and 10, each with every later one that can be had beside it."""
         same = DERIVED[0] + KEY
         for number, agreed, keys in (
             (1, (9, 4, 129), same + b"\0"),

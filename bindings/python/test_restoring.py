@@ -102,13 +102,13 @@ class Restoring(Case):
         self.refused(7, restore, PLAIN, KEY, message, 0, tag, 8388609)
 
     def test_far_numbers(self):
-        """Those that a product with 128 or with 16 would turn into that of a block."""
+        """Among them those that a product with 128 or with 16 would turn into that of a block."""
         for far in (2**16, 2**32, 2**57, 2**60, 2**61, 2**63, FAR - 1):
             for block in (far, far + 1):
                 self.left(41, PLAIN, KEY, MESSAGE, block, TAG, 256)
 
     def test_the_first_fault_is_told(self):
-        """Each with every later fault that can be had beside it."""
+        """Each with every later fault that can be had beside it, and some alone."""
         for number, agreed, keys, length, bits, block, tag in (
             (1, (9, 9, 999), b"", 16, 256, FAR, 17),
             (1, (2**32 + 1, 1, 128), KEY, 16, 128, 0, 16),

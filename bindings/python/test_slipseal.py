@@ -21,7 +21,7 @@ import unittest
 import slipseal
 from slipseal import Agreement, Refused, Session, SlipReader, check, make, read_slip, read_slip_from, write_slip
 
-ROOT = os.path.join(os.path.dirname(os.path.abspath(__file__)), "..", "..")
+HERE = os.path.dirname(os.path.abspath(__file__))
 MESSAGE = b"This is the test message for mac"
 KEY = bytes.fromhex("0123456789ABCDEFFEDCBA9876543210")
 KEYS = KEY + bytes.fromhex("4149D2ADED9456681EC8B511D9E7EE04")
@@ -35,18 +35,12 @@ R6 = (
 )
 
 
-def text(*path):
-    with open(os.path.join(ROOT, *path), encoding="utf-8") as file:
-        return file.read()
-
-
 def annex_a():
     """Agreement, keys, message, tag and calls of each printed tag, and of each printed G as a tag of 128 bits. Algorithm 7 prints
     64 bits, which are refused, so 63 of them are taken."""
-    for line in text("bindings", "annex_a.txt").splitlines():
-        if line.startswith("#"):
-            continue
-        algorithm, padding, data, keys, tag, g = line.split()
+    with open(os.path.join(HERE, "..", "annex_a.txt"), encoding="utf-8") as file:
+        rows = [line.split() for line in file if not line.startswith("#")]
+    for algorithm, padding, data, keys, tag, g in rows:
         algorithm, padding, message = int(algorithm), int(padding), MESSAGE if data == "1" else MESSAGE[:25]
         q = 2 if padding in (1, 4) else len(message) // 16 + 1 if padding == 2 else 3
         calls = q + (0, 1, 2, 2, 1, 0, 0, 1)[algorithm - 1]
@@ -361,7 +355,7 @@ class Slips(Case):
         self.assertEqual(read_slip(Agreement(5, 4, 1), KEY, one).lot, b"A7")
 
     def test_the_order_of_reads(self):
-        """Each refusal with the later ones: 20 to 24, 25, then those of the agreement and the keys."""
+        """Each refusal with later ones: 20 to 24, 25, 1 to 5, 10."""
         for number, agreed, keys, seal in (
             (20, (9, 9, 999), b"", "7F000B050440A47A9299C7B845"),
             (21, (9, 9, 999), b"", "7E000B050440A47A9299C7B8456C"),
@@ -692,9 +686,8 @@ class Handed(Case):
 
     def test_a_missing_library_is_named(self):
         environment = dict(os.environ, SLIPSEAL_LIB="/nowhere/libslipseal.so")
-        here = os.path.dirname(os.path.abspath(__file__))
         run = subprocess.run(
-            [sys.executable, "-c", "import slipseal"], cwd=here, env=environment, stderr=subprocess.PIPE, universal_newlines=True
+            [sys.executable, "-c", "import slipseal"], cwd=HERE, env=environment, stderr=subprocess.PIPE, universal_newlines=True
         )
         self.assertIn("ImportError: /nowhere/libslipseal.so", run.stderr)
         self.assertIn("run bindings/build, or set SLIPSEAL_LIB", run.stderr)

@@ -31,7 +31,7 @@ fn derived() -> Vec<u8> {
 /// What was agreed, the keys, the message, the tag and the calls.
 type Case = (Agreement, Vec<u8>, &'static [u8], Vec<u8>, u64);
 
-/// Every case known beforehand.
+/// A.7, of algorithm 2 what the derived keys make that are handed in, and R8.
 fn cases() -> Vec<Case> {
     let of_a_7: Vec<Vector> = annex_a().into_iter().filter(|v| v.algorithm == 6).collect();
     assert_eq!(of_a_7.len(), 6);
@@ -92,7 +92,7 @@ fn sessions_cut_at_every_byte() {
     }
 }
 
-/// Of algorithms 2 and 6, the derived keys handed in make the same tags with 2 calls less.
+/// The calls are 2 more than without a master; of algorithms 2 and 6, the derived keys handed in make the same tags.
 #[test]
 fn every_number_of_bits() {
     for algorithm in [2, 4, 6] {
@@ -173,7 +173,7 @@ fn judged(agreement: Agreement, keys: &[u8]) -> u64 {
     let mut lost = *MESSAGE;
     let full = Agreement { m: if judged == 3 { m } else { 128 }, ..agreement };
     let restored = number(restore(full, keys, &mut lost, 256, 0, &[0xAA; 16]).err());
-    let restored = if algorithm == 7 && restored == 3 { judged } else { restored }; // 3 before all others
+    let restored = if algorithm == 7 && restored == 3 { judged } else { restored }; // no full tag: 3 before 4
     assert!(restored == 0 || lost == *MESSAGE, "a refusal writes nothing");
     let others = [
         checked,
@@ -205,7 +205,7 @@ fn bytes_of_keys() {
     }
 }
 
-/// 1 to 5, each with every later one that can be had beside it.
+/// 1 to 5, then 7, 9 and 10, each with every later one that can be had beside it.
 #[test]
 fn the_first_fault_is_told() {
     let same = [hex(DERIVED[0]), key()].concat();

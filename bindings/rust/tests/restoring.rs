@@ -184,7 +184,7 @@ fn the_longest_message() {
     }
 }
 
-/// Numbers that a product with 128 or with 16 would turn into that of a block.
+/// Among them those that a product with 128 or with 16 would turn into that of a block.
 #[test]
 fn far_numbers() {
     let bytes = [0x6B; 64];
@@ -224,7 +224,7 @@ fn three_for_all_but_full_tags() {
 /// block, and the bytes of the tag.
 type Call = (u64, Agreement, usize, usize, usize, usize, usize);
 
-/// Each with every later fault that can be had beside it. The keys are one key twice: good to byte 16.
+/// Each with every later fault that can be had beside it, and some alone. The keys are one key twice: good to byte 16.
 #[test]
 fn the_first_fault_is_told() {
     let (far, none) = (1 << 32, usize::MAX);

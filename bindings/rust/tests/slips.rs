@@ -95,7 +95,7 @@ fn with_number(agreement: Agreement, place: usize, number: u64) -> Agreement {
     agreed(algorithm, padding, m)
 }
 
-/// The three numbers are compared whole: the other one is off by one, or equal in its low 8, 16, 31, 32 or 63 bits.
+/// The three numbers are compared whole: the other one is off by one, the largest, or equal in its low 8, 16, 31, 32 or 63 bits.
 #[test]
 fn another_agreement() {
     let far = [8, 16, 31, 32, 63].map(|bits| 1 << bits);
@@ -168,7 +168,7 @@ fn one_slip_under_an_agreement() {
     assert_eq!((0..=u16::MAX).filter(accepted).collect::<Vec<_>>(), [0xA330]);
 }
 
-/// An agreement that is not allowed gets its number where the slip names the same, else 25.
+/// A fault of the agreement, the keys or the tag gets its number where the slip names what was agreed, else 25.
 #[test]
 fn unsound_agreements() {
     for (named, tag, keys, number) in [
@@ -269,7 +269,7 @@ fn r6_written() {
     }
 }
 
-/// A slip made with `make` is read to its contents and written from them, under every agreement.
+/// A slip made with `make` is read to its contents and written from them, under every agreement without a master.
 #[test]
 fn both_ways() {
     for algorithm in 1..=8 {
