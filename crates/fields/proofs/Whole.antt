@@ -8,7 +8,7 @@ use mathlib.Core.List.{List, [], _∷_, _++_, append-nil}
 use Prim.Native.Nat.{ℕ, zero, suc, _/_, _%_, _<_}
 use native.Mathlib.Omega.{arith}
 use lib.ListN.{length, take, drop, getD, length-drop, take-append-drop, drop-of-length-le}
-use lib.Seq.{drop-cons, drop-drop, length-take-le}
+use lib.Seq.{drop-cons, drop-drop, length-take-le, take-all}
 use Rattle.bits.proofs.Strings.{neither}
 use Rattle.fields.specs.Format.{expiryRow, lotRow, amountRow, sealRow}
 use Rattle.fields.specs.Field.{anyOutside, twoBytes, lengthOf, value, endOf, fieldOf}
@@ -66,6 +66,13 @@ module _ (s : List ℕ) (ok : LaidOut s) where
       field-first sealRow (sealField s) (ok .seal) (omega arith)
       ∙ ap (λ (l : List ℕ). fieldOf sealRow (value (sealField s)) ++ l) (drop-of-length-le (sealField s) (ok .ended))
       ∙ append-nil (fieldOf sealRow (value (sealField s)))
+
+  -- its value is all that it has after its head
+  pub seal-value : value (sealField s) ≡ drop 3 (sealField s)
+  unfolding value
+  seal-value =
+      let f = sealField s in
+      take-all (lengthOf f) (drop 3 f) (omega (arith, length-drop 3 f, end-whole f (ok .seal .whole), ok .seal .whole, ok .ended))
 
   pub covered-then-seal : s ≡ covered s ++ sealField s
   unfolding covered sealField

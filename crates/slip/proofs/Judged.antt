@@ -8,7 +8,7 @@ use mathlib.Core.List.{List, [], _∷_, _++_, append-assoc}
 use Prim.Native.Nat.{ℕ, zero, suc, _+_, _*_, _/_, _≤_}
 use native.Mathlib.Omega.{arith}
 use lib.ListN.{length, take, drop, length-take, length-drop}
-use lib.Seq.{take-all, drop-drop}
+use lib.Seq.{drop-drop}
 use lib.Dec.{eqb}
 use denote.Ref.{RefT, now}
 use borrow.Author.Tests.{le-ltb, le-leb, eq-eqb, ne-eqb}
@@ -38,9 +38,9 @@ use Rattle.message.specs.Faults.{lengthWrong, tooManyBits, tooFewBlocks, tagLen
 use Rattle.tag.specs.OneCall.{oneCallFaults, tagAt, checkedBy, checkOf}
 use Rattle.fields.specs.Field.{lengthOf, value}
 use Rattle.fields.specs.Layout.{lotAt, sealAt, lotField, sealField, covered, layoutFaults}
-use Rattle.fields.proofs.Formed.{end-whole}
 use Rattle.fields.proofs.Inside.{seal-there}
 use Rattle.fields.proofs.Laid.{LaidOut, laid-out, layout-numbered, covered-least, covered-most}
+use Rattle.fields.proofs.Whole.{seal-value}
 use Rattle.slip.specs.Part.{lotPart, lotPartIn}
 use Rattle.slip.specs.Slip.{agreementUnmet, tagNamed, sealBits, sealDefined, sealCalls, sealWrong, slipFaults, contentsOf, acceptedSlip, refusedSlip, readOf}
 use Rattle.settings.specs.declared.Agreement.{Agreement}
@@ -144,12 +144,11 @@ module _ (s : List ℕ) (ok : LaidOut s) where
 
   -- the tag's bytes are all that is left after them
   pub tag-is : (at : ℕ) → at ≡ sealAt s → drop (at + 6) s ≡ tagNamed s
-  unfolding tagNamed value sealField
+  unfolding tagNamed sealField
   tag-is at e =
       let f = sealField s in
-      let long : length (drop 3 f) ≤ lengthOf f = omega (arith, length-drop 3 f, end-whole f (ok .seal .whole), ok .seal .whole, ok .ended) in
       let six : sealAt s + (3 + 3) ≡ at + 6 = omega arith in
-      sym (ap (drop 3) (take-all (lengthOf f) (drop 3 f) long) ∙ drop-drop 3 3 f ∙ drop-drop (3 + 3) (sealAt s) s ∙ ap (λ (k : ℕ). drop k s) six)
+      sym (ap (drop 3) (seal-value s ok) ∙ drop-drop 3 3 f ∙ drop-drop (3 + 3) (sealAt s) s ∙ ap (λ (k : ℕ). drop k s) six)
 
   -- a check refuses as those tests do
   check-first : (A : Agreement) (keys : List ℕ) → firstOf (oneCallFaults A keys (length (covered s)) (coveredBits s) (tagLengthWrong (A .m) (length (tagNamed s)))) ≡ firstOf (sealTests s A keys)

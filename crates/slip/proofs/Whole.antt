@@ -9,7 +9,7 @@ use mathlib.Core.Path.{_≡_, sym, ap, ap₂, _∙_, subst}
 use mathlib.Core.List.{List, _∷_, _++_}
 use Prim.Native.Nat.{ℕ, _+_, _*_, _≤_, _<_}
 use native.Mathlib.Omega.{arith}
-use lib.ListN.{length, drop, getD, length-drop}
+use lib.ListN.{length, drop, getD}
 use lib.Seq.{drop-cons, take-all, getD-drop}
 use borrow.Author.Tests.{not-false}
 use Rattle.bits.specs.Choice.{firstOf}
@@ -29,12 +29,12 @@ use Rattle.settings.specs.InUse.{inUse}
 use Rattle.tag.specs.OneCall.{tagAt}
 use Rattle.tag.proofs.Full.{tagged-full}
 use Rattle.fields.specs.Format.{expiryRow, lotRow, amountRow, sealRow}
-use Rattle.fields.specs.Field.{lengthOf, value, fieldOf}
+use Rattle.fields.specs.Field.{value, fieldOf}
 use Rattle.fields.specs.Date.{yearOf, monthOf, dayOf}
 use Rattle.fields.specs.Layout.{sealAt, lotField, amountField, sealField, covered, amountOf}
-use Rattle.fields.proofs.Formed.{Within, within, within-all, end-whole}
+use Rattle.fields.proofs.Formed.{Within, within, within-all}
 use Rattle.fields.proofs.Dates.{Real, real-date}
-use Rattle.fields.proofs.Whole.{Bytewise, value-long, seal-alone, covered-then-seal, four-fields, slip-bytes}
+use Rattle.fields.proofs.Whole.{Bytewise, value-long, seal-alone, seal-value, covered-then-seal, four-fields, slip-bytes}
 use Rattle.slip.specs.Slip.{sealValue, namedValues, agreedValues, agreementUnmet, tagNamed, sealDefined, sealWrong, slipFaults}
 use Rattle.settings.specs.declared.Agreement.{Agreement}
 use Rattle.slip.proofs.Judged.{seal-of-covered, Believed, believed}
@@ -65,15 +65,6 @@ module _ (A : Agreement) (keys s : List ℕ) (yes : Accepted A keys s) where
   good : Believed A keys s
   good = believed A keys s yes
 
-  seal-value : value (sealField s) ≡ drop 3 (sealField s)
-  unfolding value
-  seal-value =
-      let f = sealField s in
-      take-all (lengthOf f) (drop 3 f) (omega (arith, length-drop 3 f, good .fields .seal .whole, ended))
-    where
-      ended : length (sealField s) ≤ 3 + lengthOf (sealField s)
-      ended = omega (arith, good .fields .ended, end-whole (sealField s) (good .fields .seal .whole))
-
   -- the seal's bytes are the defined ones, all of them
   pub tag-defined : tagNamed s ≡ sealDefined A s keys
   unfolding sealWrong
@@ -85,7 +76,7 @@ module _ (A : Agreement) (keys s : List ℕ) (yes : Accepted A keys s) where
   named-first =
       let f = sealField s in
       let long = ok-long in
-      let at : (i : ℕ) → getD (value f) i 0 ≡ getD f (3 + i) 0 = λ i. ap (λ (l : List ℕ). getD l i 0) seal-value ∙ getD-drop 3 f i 0 in
+      let at : (i : ℕ) → getD (value f) i 0 ≡ getD f (3 + i) 0 = λ i. ap (λ (l : List ℕ). getD l i 0) (seal-value s (good .fields)) ∙ getD-drop 3 f i 0 in
       drop-cons (value f) 0 0 (omega (arith, long))
       ∙ ap₂ (λ (x : ℕ) (l : List ℕ). x ∷ l) (at 0) (drop-cons (value f) 1 0 (omega (arith, long))
       ∙ ap₂ (λ (x : ℕ) (l : List ℕ). x ∷ l) (at 1) (drop-cons (value f) 2 0 (omega (arith, long))
