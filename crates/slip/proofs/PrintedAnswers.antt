@@ -33,7 +33,7 @@ use Rattle.slip.proofs.Judged.{lot-value}
 use Rattle.slip.proofs.Whole.{Accepted}
 use Rattle.slip.proofs.Numbers.{accepted-is, Reading, keysRead, slipRead, read-accepted}
 use Rattle.slip.proofs.RoundTrip.{Writable, saidSlip, length-printed, printed-read, lot-printed, writable-again, read-printed, calls-again}
-use Rattle.slip.proofs.Printable.{writeAnswers, writtenAs, writtenOf, unwrittenOf, writeFault, write-numbers, writable, unwritten-is, written-is, number-is, clear-of}
+use Rattle.slip.proofs.Printable.{writeAnswers, writtenAs, writtenOf, unwrittenOf, writeFault, write-numbers, writable, unwritten-is, written-is, write-number-is, clear-of}
 use Rattle.slip.proofs.read.Kinds as read-k
 use Rattle.slip.proofs.lot.Kinds as lot-k
 use Rattle.slip.proofs.lot.Reads as lot
@@ -69,7 +69,7 @@ module _ (κs : Lfts 3) (a : Dens κs write-k.ps) (x : Writing κs a) where
   fault = writeFault (a .0) (keysGiven κs a) (saysGiven κs a) (roomGiven κs a)
 
   pub write-number : x .result .number ≡ fault
-  write-number = ap (λ (r : Written × List ℕ). r .0 .number) (x .ensures) ∙ number-is (a .0) (keysGiven κs a) (saysGiven κs a) (roomGiven κs a)
+  write-number = ap (λ (r : Written × List ℕ). r .0 .number) (x .ensures) ∙ write-number-is (a .0) (keysGiven κs a) (saysGiven κs a) (roomGiven κs a)
 
   pub write-answers : Among writeAnswers (x .result .number)
   write-answers = subst (Among writeAnswers) (sym write-number) (write-numbers (a .0) (keysGiven κs a) (saysGiven κs a) (roomGiven κs a))

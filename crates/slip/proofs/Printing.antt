@@ -51,9 +51,9 @@ sealed-is A front tag n e =
 -- ---- a room
 
 -- refused, and nothing else happened
-pub refused-by : (n : ℕ) (slip : List ℕ) (calls : ℕ) (room : List ℕ) → (n ≡ 0 → ⊥) → (unwrittenSlip n, room) ≡ writtenBy n slip calls room
+pub unwritten-by : (n : ℕ) (slip : List ℕ) (calls : ℕ) (room : List ℕ) → (n ≡ 0 → ⊥) → (unwrittenSlip n, room) ≡ writtenBy n slip calls room
 unfolding writtenBy
-refused-by n slip calls room some = miss _ _ _ _ (ne-eqb n 0 some) refl
+unwritten-by n slip calls room some = miss _ _ _ _ (ne-eqb n 0 some) refl
 
 module _ (slip : List ℕ) (calls : ℕ) (room : List ℕ) where
   pub put-short : length room < length slip → (unwrittenSlip 10, room) ≡ putOf slip calls room
@@ -122,7 +122,7 @@ module _ (A : Agreement) (keys front : List ℕ) (whole : covered front ≡ fron
         let slip = sealedBy A front (sealDefined A front keys) in
         let some : suc n ≡ 0 → ⊥ = λ z. absurd (omega arith) in
         let first : firstOf (agreementFaults A keys ++ (10 given ltb (length room) (length slip) ∷ [])) ≡ suc n = first-append (agreementFaults A keys) _ (λ z. some (sym e ∙ z)) ∙ e in
-        rw (ne-eqb (suc n) 0 some) (refused-by (suc n) slip (sealCalls A front keys) room some ∙ ap (λ (n : ℕ). writtenBy n slip (sealCalls A front keys) room) (sym first))
+        rw (ne-eqb (suc n) 0 some) (unwritten-by (suc n) slip (sealCalls A front keys) room some ∙ ap (λ (n : ℕ). writtenBy n slip (sealCalls A front keys) room) (sym first))
 
     -- of any answer of `make`
     module _ (r : Outcome × List ℕ) (told : r ≡ makeOf A keys front (8 * length front) b) where
@@ -143,7 +143,7 @@ module _ (A : Agreement) (keys : List ℕ) (x : Says) (room : List ℕ) where
   pub says-refused : ¬ (firstOf (saysFaults x) ≡ 0) → (unwrittenSlip (firstOf (saysFaults x)), room) ≡ writeOf A keys x room
   unfolding writeOf writeFaults
   says-refused some =
-      refused-by (firstOf (saysFaults x)) (slipOf A keys x) (slipCalls A keys x) room some
+      unwritten-by (firstOf (saysFaults x)) (slipOf A keys x) (slipCalls A keys x) room some
       ∙ ap (λ (n : ℕ). writtenBy n (slipOf A keys x) (slipCalls A keys x) room) (sym (first-append (saysFaults x) _ some))
 
   pub says-clear : firstOf (saysFaults x) ≡ 0 → writeUnder A keys (coveredOf x) room ≡ writeOf A keys x room
