@@ -1,97 +1,36 @@
 -- What `read` and `read_under` rest on. The fields are refused first (`layout-refused`), then an agreement that is not met
--- (`unmet-refused`). After that the covered part has 22 to 53 bytes, so that of the refusals 7 to 10 of a check only 10 can come, and
--- the check's answer is turned into the slip's (`judged`). And the lot that is read lies inside the slip (`lot-there`).
+-- (`unmet-refused`). After that the covered part has 22 to 53 bytes, so that a check of it is refused as the slip is (`check-first`), and
+-- the check's answer is turned into the slip's (`judged`). And a slip that is not refused has none of these faults (`believed`).
 -- Assumes nothing.
 use mathlib.Core.Path.{_≡_, refl, sym, ap, _∙_}
 use mathlib.Core.Bool.{Bool, true, false, not}
 use mathlib.Core.List.{List, [], _∷_, _++_, append-assoc}
-use Prim.Native.Nat.{ℕ, zero, suc, _+_, _*_, _/_, _≤_}
+use Prim.Native.Nat.{ℕ, zero, suc, _+_, _*_, _≤_}
 use native.Mathlib.Omega.{arith}
 use lib.ListN.{length, take, drop, length-take, length-drop}
 use lib.Seq.{drop-drop}
 use lib.Dec.{eqb}
-use denote.Ref.{RefT, now}
-use borrow.Author.Tests.{le-ltb, le-leb, eq-eqb, ne-eqb}
+use borrow.Author.Tests.{ne-eqb}
 use Rattle.bits.specs.Choice.{pick, Fault, _given_, firstOf}
 use Rattle.bits.specs.Str.{sameBytes}
-use Rattle.bits.proofs.Choice.{hit}
 use Rattle.bits.proofs.Faults.{Clear, passed, done, all, with, Numbered, first-clear, clear-first, clear-append, first-append, first-append-clear, first-same, every-append}
-use Rattle.cipher.specs.Cipher.{Cipher}
-use Rattle.cipher.specs.Ciphers.{cipherAt}
-use Rattle.cipher.proofs.Laws.{sm4-width, lawful-at}
-use Rattle.mac.specs.Padding.{Method, methodAt, blockCount}
-use Rattle.mac.specs.Tag.{bitsOf, bytesFor}
-use Rattle.mac.specs.declared.Row.{Row}
-use Rattle.mac.specs.Algorithm.{algorithmAt, row}
-use Rattle.mac.proofs.Numbers.{least-two}
-use Rattle.mac.proofs.Padded.{padded-length, blockCount-is}
-use Rattle.mac.proofs.OneBlock.{tag-long}
-use Rattle.mac.proofs.TagBytes.{length-tagBytes}
-use Rattle.settings.specs.InUse.{inUse, agreementFaults}
-use Rattle.settings.specs.Faults.{settingsRefusal}
-use Rattle.settings.proofs.Sound.{agreement-numbered, sound-size}
+use Rattle.settings.specs.InUse.{agreementFaults}
+use Rattle.settings.proofs.Sound.{agreement-numbered}
 use Rattle.settings.specs.Answers.{settingsOf}
-use Rattle.settings.specs.declared.Settings.{Settings}
 use Rattle.settings.specs.declared.Outcome.{Outcome}
 use Rattle.settings.specs.declared.Outcome.the-variants.{Accepted, Made, Yes, No, Refused}
-use Rattle.message.specs.Faults.{lengthWrong, tooManyBits, tooFewBlocks, tagLengthWrong, messageFaults}
-use Rattle.tag.specs.OneCall.{oneCallFaults, tagAt, checkedBy, checkOf}
-use Rattle.fields.specs.Field.{lengthOf, value}
-use Rattle.fields.specs.Layout.{lotAt, sealAt, lotField, sealField, covered, layoutFaults}
+use Rattle.message.specs.Faults.{tagLengthWrong}
+use Rattle.tag.specs.OneCall.{oneCallFaults, checkedBy, checkOf}
+use Rattle.fields.specs.Layout.{sealAt, sealField, covered, layoutFaults}
 use Rattle.fields.proofs.Inside.{seal-there}
 use Rattle.fields.proofs.Laid.{LaidOut, laid-out, layout-numbered, covered-least, covered-most}
 use Rattle.fields.proofs.Whole.{seal-value}
-use Rattle.slip.specs.Part.{lotPart, lotPartIn}
-use Rattle.slip.specs.Slip.{agreementUnmet, tagNamed, sealBits, sealDefined, sealCalls, sealWrong, slipFaults, contentsOf, acceptedSlip, refusedSlip, readOf}
+use Rattle.slip.specs.Slip.{agreementUnmet, tagNamed, sealDefined, sealCalls, sealWrong, slipFaults, acceptedSlip, refusedSlip, readOf}
 use Rattle.settings.specs.declared.Agreement.{Agreement}
 use Rattle.slip.specs.declared.Slip.{Slip}
-
--- ---- 7, 8 and 9 do not arise
-
--- a message of n whole bytes, 17 to 1,048,576 of them
-module _ (S : Settings) (n : ℕ) (least : 17 ≤ n) (most : n ≤ 1048576) where
-  length-right : lengthWrong n (8 * n) ≡ false
-  unfolding lengthWrong bytesFor
-  length-right =
-      let e : n ≡ (8 * n + 7) / 8 = omega arith in
-      ap not (eq-eqb n ((8 * n + 7) / 8) e)
-
-  few-bits : tooManyBits (8 * n) ≡ false
-  unfolding tooManyBits
-  few-bits = le-ltb 8388608 (8 * n) (omega arith)
-
-  two-blocks : (M : Method) → 2 ≤ blockCount M 128 (8 * n)
-  two-blocks M = omega (arith, padded-length M 128 (8 * n) (omega arith), blockCount-is M 128 (8 * n) (omega arith))
-
-  enough-blocks : tooFewBlocks S (8 * n) ≡ false
-  unfolding tooFewBlocks
-  enough-blocks =
-      let q = blockCount (methodAt (S .padding)) 128 (8 * n) in
-      let few = row (algorithmAt (S .algorithm)) .least in
-      rw sm4-width (le-ltb q few (omega (arith, two-blocks (methodAt (S .padding)), least-two (algorithmAt (S .algorithm)))))
-
-  pub only-ten : (ten : Bool) → firstOf (messageFaults S n (8 * n) ten) ≡ firstOf (10 given ten ∷ [])
-  unfolding messageFaults firstOf pick
-  only-ten ten = rw (length-right, few-bits, enough-blocks) refl
+use Rattle.slip.proofs.Seal.{only-ten}
 
 -- ---- a slip whose fields are clear
-
--- the tag has as many bits as were agreed
-pub seal-bits : (A : Agreement) (keys s : List ℕ) → firstOf (agreementFaults A keys) ≡ 0 → length (sealBits A s keys) ≡ A .m
-unfolding tagAt settingsRefusal
-seal-bits A keys s sound =
-    let size = sound-size A (length keys) (inUse A keys) sound in
-    tag-long (cipherAt 1) (lawful-at 1) (algorithmAt (A .algorithm)) (methodAt (A .padding)) (inUse A keys) (A .m) (bitsOf (covered s) (8 * length (covered s))) (omega (arith, sm4-width, size))
-
--- and the seal as many bytes as hold them
-pub seal-bytes : (A : Agreement) (keys s : List ℕ) → firstOf (agreementFaults A keys) ≡ 0 → length (sealDefined A s keys) ≡ bytesFor (A .m)
-unfolding sealDefined
-seal-bytes A keys s sound = length-tagBytes _ ∙ ap bytesFor (seal-bits A keys s sound)
-
--- the seal and the calls hang on the covered bytes alone
-pub seal-of-covered : (A : Agreement) (keys s t : List ℕ) → covered s ≡ covered t → (sealDefined A s keys ≡ sealDefined A t keys) × (sealCalls A s keys ≡ sealCalls A t keys)
-unfolding sealDefined sealCalls
-seal-of-covered A keys s t e = (rw e refl, rw e refl)
 
 -- after the fields comes what the seal names: another agreement is 25
 pub unmet-first : (A : Agreement) (keys s : List ℕ) → firstOf (layoutFaults s) ≡ 0 → agreementUnmet A (sealField s) ≡ true → firstOf (slipFaults A keys s) ≡ 25
@@ -245,27 +184,3 @@ believed A keys s e =
 
     after-fields : LaidOut s → Clear (25 given agreementUnmet A (sealField s) ∷ sealFaultsUnder A keys s) → Believed A keys s
     after-fields ok (passed met rest) = let both = clear-append (agreementFaults A keys) _ rest in last ok met (clear-first (both .0)) (both .1)
-
--- ---- where the lot lies
-
-pub lot-value : (s : List ℕ) → take (lengthOf (lotField s)) (drop (lotAt s + 3) s) ≡ value (lotField s)
-unfolding value lotField
-lot-value s = ap (take (lengthOf (lotField s))) (sym (drop-drop 3 (lotAt s) s))
-
-lot-in : (s : List ℕ) → LaidOut s → lotAt s + 3 + lengthOf (lotField s) ≤ length s
-unfolding lotField
-lot-in s ok = omega (arith, length-drop (lotAt s) s, ok .lot .whole)
-
-lot-fits : (A : Agreement) (keys s : List ℕ) (calls n : ℕ) → firstOf (slipFaults A keys s) ≡ n
-    → pick (eqb n 0) (acceptedSlip s calls) (refusedSlip n) .contents .«lot_at» + pick (eqb n 0) (acceptedSlip s calls) (refusedSlip n) .contents .«lot_len» ≤ length s
-unfolding pick acceptedSlip contentsOf refusedSlip
-lot-fits A keys s calls zero e = lot-in s (believed A keys s e .fields)
-lot-fits A keys s calls (suc n) e = rw (ne-eqb (suc n) 0 (λ z. absurd (omega arith))) (omega arith)
-
-pub lot-inside : (A : Agreement) (keys s : List ℕ) → readOf A keys s .contents .«lot_at» + readOf A keys s .contents .«lot_len» ≤ length s
-unfolding readOf
-lot-inside A keys s = lot-fits A keys s _ _ refl
-
-pub lot-there : (A : Agreement) (keys : List ℕ) (s : RefT (List ℕ)) → lotPart s (readOf A keys (now s) .contents) ≡ lotPartIn s (readOf A keys (now s) .contents)
-unfolding lotPartIn
-lot-there A keys s = hit _ _ _ _ (le-leb _ _ (lot-inside A keys (now s))) refl

@@ -1,4 +1,6 @@
+pub mod Seal
 pub mod Judged
+pub mod LotInside
 pub mod Gathering
 pub mod Whole
 pub mod Numbers

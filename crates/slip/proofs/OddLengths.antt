@@ -33,7 +33,8 @@ use Rattle.slip.specs.declared.Contents.{Contents}
 use Rattle.slip.specs.declared.Gathered.{Gathered}
 use Rattle.slip.specs.declared.Slip.{Slip}
 use Rattle.slip.proofs.Gathering.{held-few, first-alone, holds}
-use Rattle.slip.proofs.Judged.{believed, layout-refused, lot-inside}
+use Rattle.slip.proofs.Judged.{believed, layout-refused}
+use Rattle.slip.proofs.LotInside.{lot-inside}
 use Rattle.slip.proofs.Whole.{Accepted, Whole, whole}
 use Rattle.slip.proofs.Numbers.{slipAnswers, slip-among, accepted-by, Reading, keysRead, slipRead, read-accepted}
 use Rattle.slip.proofs.Enough.{first-76}
