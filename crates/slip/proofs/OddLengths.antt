@@ -4,17 +4,16 @@
 -- Of every answer that the contracts of `none`, `add` and `read` allow, and of any number of reads of any lengths: reading what was
 -- gathered is reading the reads joined, every field of the answer (`gathered-joined`), and an accepted slip was judged whole
 -- (`gathered-whole`); its lot is read from the record's own bytes (`gathered-lot`). Two ways to cut the same bytes lead to one record
--- (`one-record`). A proper beginning of an accepted slip gets 20, a proper lengthening 24 (`nothing-short`, `nothing-long`; of any answers
--- `read-short`, `read-long`, and of what was gathered `gathered-short`, `gathered-long`). And whatever stands in a record that comes in,
--- it counts as the bytes that it holds, and what comes back has a count of 76 at most and zeros past it (`any-record`, `add-sound`);
--- the number that it gets is one of a slip's (`gathered-answers`).
+-- (`one-record`). What is accepted after more reads got 20 before them, and what was accepted gets 24 after them (`gathered-short`,
+-- `gathered-long`; ShortOrLong.antt says it of any slip). And whatever stands in a record that comes in, it counts as the bytes that it
+-- holds (`any-record`; AddedReads.antt says what comes back); the number that it gets is one of a slip's (`gathered-answers`).
 -- Assumes nothing.
 use mathlib.Core.Path.{_≡_, refl, sym, ap, _∙_, subst}
-use mathlib.Core.List.{List, [], _∷_, _++_, flatten, append-assoc, append-nil}
-use Prim.Native.Nat.{ℕ, _+_, _-_, _≤_, _<_}
+use mathlib.Core.List.{List, [], _++_, flatten}
+use Prim.Native.Nat.{ℕ, _+_, _-_, _≤_}
 use native.Mathlib.Omega.{arith}
 use lib.ListN.{length, take, drop, replicate, length-append, length-take, length-drop}
-use lib.Seq.{take-all, take-at, take-take, take-append-le, drop-append-le}
+use lib.Seq.{take-take, take-append-le, drop-append-le}
 use denote.Ref.{now}
 use contract.Lifetimes.{Lfts}
 use borrow.Author.Tests.{le-leb}
@@ -22,9 +21,8 @@ use borrow.Fn.Kinds.{Dens}
 use Rattle.bits.specs.Once.{Allowed}
 use Rattle.bits.proofs.Choice.{hit}
 use Rattle.bits.proofs.Lists.{drop-take}
-use Rattle.fields.proofs.Beginnings.{Along, layout-cut, layout-long}
 use Rattle.writing.specs.Writing.{filledTo}
-use Rattle.slip.specs.Gathering.{most, held, gatheredOf, addOf}
+use Rattle.slip.specs.Gathering.{most, held, gatheredOf}
 use Rattle.slip.specs.Part.{seen, lotPart, lotPartIn}
 use Rattle.slip.specs.Slip.{refusedSlip, readOf}
 use Rattle.settings.specs.declared.Agreement.{Agreement}
@@ -32,12 +30,13 @@ use Rattle.settings.proofs.Listed.{Among}
 use Rattle.slip.specs.declared.Contents.{Contents}
 use Rattle.slip.specs.declared.Gathered.{Gathered}
 use Rattle.slip.specs.declared.Slip.{Slip}
-use Rattle.slip.proofs.Gathering.{held-few, first-alone, holds}
-use Rattle.slip.proofs.Judged.{believed, layout-refused}
+use Rattle.slip.proofs.Gathering.{holds}
 use Rattle.slip.proofs.LotInside.{lot-inside}
 use Rattle.slip.proofs.Whole.{Accepted, Whole, whole}
-use Rattle.slip.proofs.Numbers.{slipAnswers, slip-among, accepted-by, Reading, keysRead, slipRead, read-accepted}
+use Rattle.slip.proofs.Numbers.{slipAnswers, slip-among, accepted-by, Reading, keysRead, slipRead}
 use Rattle.slip.proofs.Enough.{first-76}
+use Rattle.slip.proofs.ShortOrLong.{nothing-short, nothing-long}
+use Rattle.slip.proofs.AddedReads.{held-joined, Added, added-is, added-to}
 use Rattle.slip.proofs.read.Kinds as one-k
 use Rattle.slip.proofs.lot_in.Kinds as lot-in-k
 use Rattle.slip.proofs.lot_in.Reads as lot-in
@@ -45,99 +44,8 @@ use Rattle.slip.proofs.lot.Kinds as lot-k
 use Rattle.slip.proofs.lot.Reads as lot
 use Rattle.slip.proofs.Gathered.none.Kinds as none-k
 use Rattle.slip.proofs.Gathered.none.Reads as none
-use Rattle.slip.proofs.Gathered.add.Kinds as add-k
-use Rattle.slip.proofs.Gathered.add.Reads as add
 use Rattle.slip.proofs.Gathered.read.Kinds as read-k
 use Rattle.slip.proofs.Gathered.read.Reads as read
-
--- ---- a slip that is not all there, and one with more after it
-
-some-bytes : (r : List ℕ) → ¬ (r ≡ []) → 0 < length r
-some-bytes [] some = absurd (some refl)
-some-bytes (x ∷ r) some = omega arith
-
-begins : (s r : List ℕ) → Along (s ++ r) s
-begins s r = take-at s r (length s) refl ∙ sym (take-all (length (s ++ r)) s (omega (arith, length-append s r)))
-
--- every proper beginning of an accepted slip gets 20, under the same agreement and keys as under any others
-pub nothing-short : (A : Agreement) (keys s r : List ℕ) → ¬ (r ≡ []) → Accepted A keys (s ++ r) → (B : Agreement) (l : List ℕ) → readOf B l s ≡ refusedSlip 20
-nothing-short A keys s r some good B l =
-    let short : length s < length (s ++ r) = omega (arith, length-append s r, some-bytes r some) in
-    sym (layout-refused B l s 20 (sym (layout-cut (s ++ r) s (believed A keys (s ++ r) good .fields) (begins s r) short)) (λ z. absurd (omega arith)))
-
--- every proper lengthening 24
-pub nothing-long : (A : Agreement) (keys s r : List ℕ) → ¬ (r ≡ []) → Accepted A keys s → (B : Agreement) (l : List ℕ) → readOf B l (s ++ r) ≡ refusedSlip 24
-nothing-long A keys s r some good B l =
-    let long : length s < length (s ++ r) = omega (arith, length-append s r, some-bytes r some) in
-    sym (layout-refused B l (s ++ r) 24 (sym (layout-long s (s ++ r) (believed A keys s good .fields) (sym (begins s r)) long)) (λ z. absurd (omega arith)))
-
--- of any two answers of `read`, the first of them a yes
-module _ (κs : Lfts 2) (a : Dens κs one-k.ps) (x : Reading κs a) (good : x .result .number ≡ 0) (λs : Lfts 2) (b : Dens λs one-k.ps) (y : Reading λs b)
-    (r : List ℕ) (some : ¬ (r ≡ [])) where
-  pub read-short : slipRead κs a ≡ slipRead λs b ++ r → y .result ≡ refusedSlip 20
-  read-short e = y .ensures ∙ nothing-short (a .0) (keysRead κs a) (slipRead λs b) r some (subst (Accepted (a .0) (keysRead κs a)) e (read-accepted κs a x good)) (b .0) (keysRead λs b)
-
-  pub read-long : slipRead λs b ≡ slipRead κs a ++ r → y .result ≡ refusedSlip 24
-  read-long e = y .ensures ∙ ap (readOf (b .0) (keysRead λs b)) e ∙ nothing-long (a .0) (keysRead κs a) (slipRead κs a) r some (read-accepted κs a x good) (b .0) (keysRead λs b)
-
--- ---- reads one after the other
-
--- the record after them
-unfoldable pub addAll : Gathered → List (List ℕ) → Gathered
-addAll g [] = g
-addAll g (s ∷ reads) = addAll (addOf g s) reads
-
--- a read after bytes that were gathered: only the first 76 of all count, and these are gathered
-add-joined : (t s : List ℕ) → addOf (gatheredOf t) s ≡ gatheredOf (t ++ s)
-unfolding addOf gatheredOf
-add-joined t s =
-    ap gatheredOf (ap (λ (h : List ℕ). h ++ s) (holds t))
-    ∙ ap (λ (h : List ℕ). record { count = length h; bytes = filledTo 80 h }) (first-alone t s)
-
-all-joined : (t : List ℕ) (reads : List (List ℕ)) → addAll (gatheredOf t) reads ≡ gatheredOf (t ++ flatten reads)
-unfolding addAll flatten
-all-joined t [] = ap gatheredOf (sym (append-nil t))
-all-joined t (s ∷ reads) =
-    ap (λ (g : Gathered). addAll g reads) (add-joined t s) ∙ all-joined (t ++ s) reads ∙ ap gatheredOf (append-assoc t s (flatten reads))
-
--- from any record: it holds what it held, and the reads after that, of all the first 76
-held-joined : (g : Gathered) (reads : List (List ℕ)) → held (addAll g reads) ≡ take most (held g ++ flatten reads)
-unfolding addAll addOf flatten
-held-joined g [] = sym (ap (take most) (append-nil (held g)) ∙ take-all most (held g) (held-few g))
-held-joined g (s ∷ reads) =
-    ap held (all-joined (held g ++ s) reads) ∙ holds ((held g ++ s) ++ flatten reads) ∙ ap (take most) (append-assoc (held g) s (flatten reads))
-
--- ---- by any answers of `add`
-
-abbrev pub Adding : (κs : Lfts 1) → Dens κs add-k.ps → Type 0
-Adding κs a = Allowed add-k.ps add-k.r add.Learnt κs a
-
--- reads added one after the other, from a record to a record
-pub data Added : Gathered → List (List ℕ) → Gathered → Type 0 where
-  end : {g : Gathered} → Added g [] g
-  then : {κs : Lfts 1} {a : Dens κs add-k.ps} {reads : List (List ℕ)} {z : Gathered} (x : Adding κs a) → Added (x .result) reads z → Added (a .0) (a .1 .0 .now ∷ reads) z
-
-added-is : {g z : Gathered} {reads : List (List ℕ)} → Added g reads z → z ≡ addAll g reads
-unfolding addAll
-added-is end = refl
-added-is (then {κs} {a} {reads} {z} x rest) = added-is rest ∙ ap (λ (g : Gathered). addAll g reads) (x .ensures)
-
--- to the record of bytes: the record of these bytes and the reads
-pub added-to : (s : List ℕ) (g z : Gathered) (reads : List (List ℕ)) → g ≡ gatheredOf s → Added g reads z → z ≡ gatheredOf (s ++ flatten reads)
-added-to s g z reads e run = added-is run ∙ ap (λ (g : Gathered). addAll g reads) e ∙ all-joined s reads
-
--- 76 bytes at most, and zeros past them
-abbrev pub Sound : Gathered → Type 0
-Sound g = (g .count ≤ most) × (g .bytes ≡ held g ++ replicate (80 - g .count) 0)
-
-sound-of : (s : List ℕ) → Sound (gatheredOf s)
-unfolding gatheredOf filledTo
-sound-of s = (omega (arith, length-take most s), ap (λ (h : List ℕ). h ++ replicate (80 - length (take most s)) 0) (sym (holds s)))
-
--- so is what `add` hands back, whatever record came in
-pub add-sound : (κs : Lfts 1) (a : Dens κs add-k.ps) (x : Adding κs a) → Sound (x .result)
-unfolding addOf
-add-sound κs a x = subst Sound (sym (x .ensures)) (sound-of (held (a .0) ++ a .1 .0 .now))
 
 -- ---- read
 

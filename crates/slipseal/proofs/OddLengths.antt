@@ -20,7 +20,9 @@ use Rattle.slip.specs.Slip.{refusedSlip, readOf}
 use Rattle.slip.specs.declared.Gathered.{Gathered}
 use Rattle.slip.proofs.Whole.{Accepted, Whole, whole}
 use Rattle.slip.proofs.Numbers.{accepted-by, keysRead, slipRead}
-use Rattle.slip.proofs.OddLengths.{Added, added-to, Sound, add-sound, read-added, read-record, lot-bytes, nothing-short, nothing-long}
+use Rattle.slip.proofs.ShortOrLong.{nothing-short, nothing-long}
+use Rattle.slip.proofs.AddedReads.{Added, added-to, Sound, add-sound}
+use Rattle.slip.proofs.OddLengths.{read-added, read-record, lot-bytes}
 use Rattle.slipseal.specs.declared.Slip.{Slip}
 use Rattle.slipseal.specs.Border.{agreedOf, toldSlip}
 use Rattle.slipseal.proofs.AsAgreed.{asRead}
