@@ -42,7 +42,8 @@ use Rattle.slipseal.specs.declared.Session.{Session}
 use Rattle.slipseal.specs.declared.Step.{Step}
 use Rattle.slipseal.specs.Border.{agreedOf, yesOf, toldOf, purposeFrom, inward, outward, handedOut, handedBack, finishedBack}
 use Rattle.slipseal.proofs.Crossing.{refused11, Odd, odd-piece, odd-finish, odd-check}
-use Rattle.slipseal.proofs.Runs.{out-number, out-in, back-answer, back-out, Pieced, Finished, FinishedCheck, judging, finish-check-number, Run, run-inward}
+use Rattle.slipseal.proofs.EachCall.{out-number, out-in, back-answer, back-out, Pieced, Finished, FinishedCheck, judging, finish-check-number}
+use Rattle.slipseal.proofs.Runs.{Run, run-inward}
 use Rattle.slipseal.proofs.slipseal_check.Kinds as check-k
 use Rattle.slipseal.proofs.slipseal_check.Reads as check
 use Rattle.slipseal.proofs.slipseal_start_check.Kinds as start-check-k

@@ -1,5 +1,6 @@
 pub mod Crossing
 pub mod AsAgreed
+pub mod EachCall
 pub mod Runs
 pub mod CheckRuns
 pub mod Slips

@@ -21,7 +21,7 @@ use Rattle.slipseal.specs.declared.Step.{Step}
 use Rattle.slipseal.specs.declared.Slip.{Slip}
 use Rattle.slipseal.specs.Border.{agreedOf, toldOf, toldMake, toldRestored, toldSlip, inward, handedOut, handedBack, finishedBack}
 use Rattle.slipseal.proofs.AsAgreed.{asWrite, Written, asWritten}
-use Rattle.slipseal.proofs.Runs.{Making, Started, Pieced, Finished, FinishedCheck, back-answer}
+use Rattle.slipseal.proofs.EachCall.{Making, Started, Pieced, Finished, FinishedCheck, back-answer}
 use Rattle.slipseal.proofs.CheckRuns.{StartedCheck, Checking}
 use Rattle.slipseal.proofs.Slips.{Read}
 use Rattle.slipseal.proofs.Restores.{Restoring}
