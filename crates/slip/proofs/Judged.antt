@@ -1,6 +1,7 @@
 -- What `read` and `read_under` rest on. The fields are refused first (`layout-refused`), then an agreement that is not met
--- (`unmet-refused`). After that the covered part has 22 to 53 bytes, so that a check of it is refused as the slip is (`check-first`), and
--- the check's answer is turned into the slip's (`judged`). And a slip that is not refused has none of these faults (`believed`).
+-- (`unmet-refused`). After that the covered part has 22 to 53 bytes, so that of the refusals 7 to 10 of a check only 10 can come
+-- (`check-first`), and the check's answer is turned into the slip's (`judged`). And a slip that is not refused has none of these
+-- faults (`believed`).
 -- Assumes nothing.
 use mathlib.Core.Path.{_≡_, refl, sym, ap, _∙_}
 use mathlib.Core.Bool.{Bool, true, false, not}

@@ -1,8 +1,8 @@
--- The promises through C of runs of calls that make a tag: said of every answer that the contracts of the exported functions allow.
--- EachCall.antt has those of each call by itself, CheckRuns.antt those of runs that check a tag. A struct goes from call to call, and
--- the record that it stands for goes the way of the session's own record (`run-inward`). So a run of calls of any kind ends with the
--- definition's tag, calls and room for the joined bits of its accepted pieces (`c-joined`), and two such runs of full tags keep demand 3
--- (`c-runs-differ`).
+-- The promises through C of runs of calls that make a tag: said of every answer that the contracts of the exported functions
+-- allow. Single calls stand in EachCall.antt, runs that check a tag in CheckRuns.antt. A struct goes from call to call, and the
+-- record that it stands for goes the way of the session's own record (`run-inward`). So a run of calls of any kind ends with the
+-- definition's tag, calls and room for the joined bits of its accepted pieces (`c-joined`), and two such runs of full tags keep
+-- demand 3 (`c-runs-differ`).
 -- Assumes nothing.
 use mathlib.Core.Path.{_≡_, refl, sym, ap, _∙_}
 use mathlib.Core.List.{List, [], _∷_, _++_}
