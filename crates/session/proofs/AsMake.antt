@@ -18,7 +18,8 @@ use Rattle.tag.proofs.make.Kinds as make-k
 use Rattle.session.specs.declared.Session.{Session}
 use Rattle.session.specs.declared.Step.{Step}
 use Rattle.session.specs.Calls.{finishOf}
-use Rattle.session.proofs.Joined.{Act, handed, gathered, Running, ending, of-end}
+use Rattle.session.proofs.OneStep.{of-end}
+use Rattle.session.proofs.Joined.{Act, handed, gathered, Running, ending}
 use Rattle.session.proofs.AsOneCall.{Holds, finished-as-one-call, nine-by-both}
 use Rattle.session.proofs.Run.{Started, Finished, Run, run-handed, Ran, agreed, keyed, told, left}
 use Rattle.session.proofs.start.Kinds as start-k

@@ -39,7 +39,8 @@ use Rattle.session.specs.Record.{standing, isCheck}
 use Rattle.session.specs.Calls.{startFaults, freshOf, declaredAt, startOf, fallsShort, endFaults, finishFaults, finishOf}
 use Rattle.session.proofs.Open.{Open, opens, ended}
 use Rattle.session.proofs.Stood.{stood}
-use Rattle.session.proofs.Joined.{Act, Running, ending, Begun, to-make, record-after, message, finished, finish-faults, finish-sound, finish-runs, declared-met, finish-stood, after-stood, joined-bits}
+use Rattle.session.proofs.OneStep.{finish-faults, finish-sound}
+use Rattle.session.proofs.Joined.{Act, Running, ending, Begun, to-make, record-after, message, finished, finish-runs, declared-met, finish-stood, after-stood, joined-bits}
 use Rattle.session.proofs.StaysOpen.{three-no, kept-no, start-clear}
 
 -- bytes of which the first l bits are the message x

@@ -33,7 +33,8 @@ use Rattle.session.specs.Calls.{startCheckOf, endFaults, finishCheckFaul
 use Rattle.session.proofs.Open.{ended}
 use Rattle.session.proofs.Purposes.{aimed-closed, aimed-end}
 use Rattle.session.proofs.Stood.{stood}
-use Rattle.session.proofs.Joined.{Act, Running, Begun, to-check, record-after, message, checked, finish-check-faults, finish-check-sound, finish-check-runs, declared-met, check-stood, start-check-clear, expected-tag, after-stood, joined-check}
+use Rattle.session.proofs.OneStep.{finish-check-faults, finish-check-sound, start-check-clear}
+use Rattle.session.proofs.Joined.{Act, Running, Begun, to-check, record-after, message, checked, finish-check-runs, declared-met, check-stood, expected-tag, after-stood, joined-check}
 use Rattle.session.proofs.AsOneCall.{Holds, lastTwo, end-last, one-call-last, nine-faults, declared-kept}
 
 -- the faults of its finish, its purpose being to check

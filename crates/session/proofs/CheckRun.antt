@@ -36,7 +36,8 @@ use Rattle.session.specs.declared.Session.{Session}
 use Rattle.session.specs.declared.Step.{Step}
 use Rattle.session.specs.Record.{cleared, aimed}
 use Rattle.session.specs.Calls.{startCheckOf, pieceOf, finishOf, finishCheckOf}
-use Rattle.session.proofs.Joined.{Act, handed, gathered, Running, refused-check, start-check-stood, joined-check}
+use Rattle.session.proofs.OneStep.{refused-check}
+use Rattle.session.proofs.Joined.{Act, handed, gathered, Running, start-check-stood, joined-check}
 use Rattle.session.proofs.StaysOpen.{start-check-opens}
 use Rattle.session.proofs.AsOneCall.{Holds}
 use Rattle.session.proofs.AsOneCheck.{yes-exactly, checked-as-one-call, nine-by-both-checks}

@@ -24,7 +24,7 @@ use Rattle.session.proofs.Session.piece.Kinds as piece-k
 use Rattle.session.proofs.Session.finish.Kinds as finish-k
 use Rattle.session.proofs.Session.finish_check.Kinds as finish-check-k
 use Rattle.session.proofs.Answers.{start-faults}
-use Rattle.session.proofs.Joined.{piece-faults, finish-faults, finish-check-faults, start-check-faults}
+use Rattle.session.proofs.OneStep.{piece-faults, finish-faults, finish-check-faults, start-check-faults}
 use Rattle.session.proofs.Run.{Started, Pieced, Finished, FinishedCheck}
 use Rattle.session.proofs.CheckRun.{StartedCheck}
 

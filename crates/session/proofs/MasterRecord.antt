@@ -36,7 +36,8 @@ use Rattle.session.specs.Record.{keysIn, standing, stateIn, isCheck, clo
 use Rattle.session.specs.Calls.{freshOf, startOf, pieceFaults, fedOf, pieceOf, endFaults, finishFaults, tagIn, callsIn, finishOf, finishCheckFaults, judgedOf, finishCheckOf}
 use Rattle.session.proofs.Stood.{stood}
 use Rattle.session.proofs.Answers.{of-step, chosen-alike}
-use Rattle.session.proofs.Joined.{of-end, start-stood}
+use Rattle.session.proofs.OneStep.{of-end}
+use Rattle.session.proofs.Joined.{start-stood}
 use Rattle.session.proofs.Run.{Started, Pieced, Finished, FinishedCheck}
 use Rattle.session.proofs.start.Kinds as start-k
 use Rattle.session.proofs.Session.piece.Kinds as piece-k

@@ -38,7 +38,8 @@ use Rattle.session.specs.Record.{standing, isCheck}
 use Rattle.session.specs.Calls.{freshOf, startOf, fallsShort, endFaults, finishFaults, finishOf}
 use Rattle.session.proofs.Purposes.{aimed-closed}
 use Rattle.session.proofs.Stood.{stood, stood-making}
-use Rattle.session.proofs.Joined.{Offered, bitsIn, offers, ends, answered, handed, ending, finish-faults, refused-finish, start-stood}
+use Rattle.session.proofs.OneStep.{Offered, bitsIn, finish-faults, refused-finish}
+use Rattle.session.proofs.Joined.{offers, ends, answered, handed, ending, start-stood}
 use Rattle.session.proofs.Accepting.{Cut, Served, accepting, end, next, stays-open, all-handed}
 
 abbrev pub four : ℕ → Agreement

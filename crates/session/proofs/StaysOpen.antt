@@ -43,7 +43,8 @@ use Rattle.session.proofs.Open.{open-clear, Taken, taken, piece-none}
 use Rattle.session.proofs.Answers.{start-faults, start-numbered}
 use Rattle.session.proofs.Purposes.{aimed-closed}
 use Rattle.session.proofs.Stood.{stood, held-clean, stood-clean}
-use Rattle.session.proofs.Joined.{Offered, bitsIn, offer, Running, piece-taken, piece-sound, start-stood, start-check-stood, start-check-clear}
+use Rattle.session.proofs.OneStep.{Offered, bitsIn, offer, piece-taken, piece-sound, start-check-clear}
+use Rattle.session.proofs.Joined.{Running, start-stood, start-check-stood}
 
 -- ---- tests that find nothing
 

@@ -31,7 +31,8 @@ use Rattle.tag.proofs.SameUse.{SameUse, tagged-same}
 use Rattle.tag.proofs.Full.{n, size, full-differ}
 use Rattle.session.specs.declared.Step as session-step
 use Rattle.session.specs.Calls.{startOf, pieceOf, finishOf, finishCheckOf}
-use Rattle.session.proofs.Joined.{Offered, Running, refused-piece, refused-finish, refused-check}
+use Rattle.session.proofs.OneStep.{Offered, refused-piece, refused-finish, refused-check}
+use Rattle.session.proofs.Joined.{Running}
 use Rattle.session.proofs.StaysOpen.{start-opens, piece-opens}
 use Rattle.slipseal.specs.declared.Answer.{Answer}
 use Rattle.slipseal.specs.declared.Session.{Session}
