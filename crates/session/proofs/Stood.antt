@@ -2,10 +2,12 @@
 -- such record, and an end gives the definition's tag, with as many calls as the definition's list has.
 -- Assumes nothing.
 use mathlib.Core.Path.{_≡_, refl, sym, ap, ap₂, _∙_}
-use mathlib.Core.Bool.{false, not}
+use mathlib.Core.Bool.{Bool, true, false, not}
 use mathlib.Core.List.{List, [], _++_, append-nil}
-use Prim.Native.Nat.{ℕ, zero, suc, _+_, _≤_, _<_}
+use Prim.Native.Nat.{ℕ, _+_, _≤_, _<_}
 use native.Mathlib.Omega.{arith}
+use borrow.Author.Tests.{eqb-true}
+use lib.Dec.{eqb}
 use lib.ListN.{length, take, replicate, length-append}
 use Rattle.bits.specs.Choice.{pick}
 use Rattle.bits.specs.Str.{Bits, bytesBits, zeros, leftmost}
@@ -13,7 +15,7 @@ use Rattle.bits.proofs.Strings.{sameB-true, length-zeros}
 use Rattle.block.specs.Block.{filledBlock}
 use Rattle.mac.specs.Run.{Run}
 use Rattle.mac.specs.declared.Row.{Row}
-use Rattle.mac.specs.Padding.{Method, methodAt, prefix, suffix, complete, blockCount}
+use Rattle.mac.specs.Padding.{Method, methodAt, suffix, complete, blockCount}
 use Rattle.mac.specs.Algorithm.{Algorithm, algorithmAt, row, Keys, Steps, steps}
 use Rattle.mac.specs.Tag.{tagOf, blockBytes}
 use Rattle.mac.specs.Derive.{macFrom}
@@ -22,7 +24,7 @@ use Rattle.cipher.specs.Cipher.{Cipher}
 use Rattle.cipher.specs.Ciphers.{cipherAt}
 use Rattle.cipher.proofs.Widths.{take-filled}
 use Rattle.cipher.proofs.Laws.{lawful-at, width-at}
-use Rattle.mac.proofs.Absorbing.{absorb-append, absorb-fits, one-piece, opened-held}
+use Rattle.mac.proofs.Absorbing.{absorb-append, absorb-fits, one-piece, opened-held, opened-at}
 use Rattle.mac.proofs.TagBytes.{blockBytes-bits}
 use Rattle.mac.proofs.Derive.{from-count}
 use Rattle.keys.specs.Given.{givenOf}
@@ -57,13 +59,12 @@ held-clean l w h = ap not (sameB-true _ _ (ap (λ (v : Bits). filledBlock (take 
 
 -- method 3 alone reads the declared length
 opened-alike : (A : Algorithm) (K : Keys) (p d e : ℕ) → (p ≡ 3 → d ≡ e) → opened C A (methodAt p) K d ≡ opened C A (methodAt p) K e
-unfolding opened methodAt prefix
-opened-alike A K zero d e h = refl
-opened-alike A K (suc zero) d e h = refl
-opened-alike A K (suc (suc zero)) d e h = refl
-opened-alike A K (suc (suc (suc zero))) d e h = ap (opened C A (methodAt 3) K) (h refl)
-opened-alike A K (suc (suc (suc (suc zero)))) d e h = refl
-opened-alike A K (suc (suc (suc (suc (suc p))))) d e h = refl
+unfolding pick
+opened-alike A K p d e h = go (eqb p 3) refl
+  where
+    go : (b : Bool) → eqb p 3 ≡ b → opened C A (methodAt p) K d ≡ opened C A (methodAt p) K e
+    go true q = ap (opened C A (methodAt p) K) (h (eqb-true p 3 q))
+    go false q = rw (opened-at C some A K d p, opened-at C some A K e p, q)
 
 module _ (A : Agreement) (s : List ℕ) (d : ℕ) where
   abbrev a : ℕ
