@@ -20,10 +20,6 @@ use Rattle.mac.proofs.OneBlock.{Apart, Exactly, refilled, full, OneBloc
 use Rattle.mac.proofs.TagBytes.{tagBytes-inj, tagBytes-bytesBits}
 use Rattle.mac.proofs.Absorbing.{session}
 
--- exactly one string of n bits is taken to the bytes t
-abbrev pub ExactlyBytes : ℕ → (Bits → List ℕ) → List ℕ → Type 0
-ExactlyBytes n f t = Exactly n f t
-
 module _ (C : Cipher) (A : Algorithm) (M : Method) (K : Keys) where
   abbrev n : ℕ
   n = C .n
@@ -41,7 +37,7 @@ module _ (C : Cipher) (A : Algorithm) (M : Method) (K : Keys) where
     -- and in tag bytes: different bytes, and for each tag of so many bytes exactly one filling
     pub differs-bytes : (j : ℕ) (x y : Bits) → Apart n j x y → ¬ (x ≡ y) → ¬ (fullBytes x ≡ fullBytes y)
     pub fills-bytes : (j : ℕ) (x : Bits) → suc j * n ≤ length x → (t : List ℕ) → 8 * length t ≡ n → ((i : ℕ) → getD t i 0 < 256)
-        → ExactlyBytes n (λ b. fullBytes (refilled n j x b)) t
+        → Exactly n (λ b. fullBytes (refilled n j x b)) t
 
   module _ (L : Lawful C) where
     tag-inj : (x y : Bits) → fullBytes x ≡ fullBytes y → full C A M K x ≡ full C A M K y
