@@ -9,13 +9,12 @@ use mathlib.Core.List.{List, _++_}
 use Prim.Native.Nat.{ℕ, _+_}
 use native.Mathlib.Omega.{arith}
 use lib.ListN.{length, replicate, drop-of-length-le}
-use lib.Seq.{take-all}
 use contract.Lifetimes.{Lfts}
 use borrow.Fn.Kinds.{Dens}
 use Rattle.bits.specs.Str.{Bits}
 use Rattle.bits.proofs.Choice.{pick-ap}
 use Rattle.block.specs.Block.{front}
-use Rattle.block.proofs.Fronts.{front-full}
+use Rattle.block.proofs.Fronts.{front-alone}
 use Rattle.cipher.specs.Cipher.{Cipher}
 use Rattle.cipher.specs.Ciphers.{cipherAt}
 use Rattle.mac.specs.declared.Row.{Row}
@@ -46,7 +45,7 @@ use Rattle.session.proofs.Session.finish_check.Kinds as check-k
 
 kept-alone : (s : List ℕ) → length s ≡ 16 → givenOf s ≡ s ++ replicate 16 0
 unfolding givenOf front
-kept-alone s h = ap₂ (λ (x y : List ℕ). x ++ y) (front-full s (omega arith) ∙ take-all 16 s (omega arith)) (ap front (drop-of-length-le s {i = 16} (omega arith)))
+kept-alone s h = ap₂ (λ (x y : List ℕ). x ++ y) (front-alone s h) (ap front (drop-of-length-le s {i = 16} (omega arith)))
 
 pub start-keeps : (A : Agreement) (s : List ℕ) (d : ℕ) → Unrefused (startOf A s d .answer) → length s ≡ 16 → startOf A s d .session .keys ≡ s ++ replicate 16 0
 unfolding stood standing freshOf

@@ -1,15 +1,11 @@
 -- What the purpose of a record and its expected tag have no part in: whether it counts as closed, what a piece does to it, its tag and its
 -- calls, and the faults of its end but for the purpose itself. Each is the same for the record of any other purpose (`aimed`).
 -- Assumes nothing.
-use mathlib.Core.Path.{_≡_, refl, _∙_}
+use mathlib.Core.Path.{_≡_, refl}
 use mathlib.Core.Bool.{Bool}
-use mathlib.Core.List.{List, _++_}
-use Prim.Native.Nat.{ℕ, _≤_}
-use native.Mathlib.Omega.{arith}
-use lib.ListN.{length, take, replicate}
-use lib.Seq.{take-all, take-take, take-append-le}
+use mathlib.Core.List.{List}
+use Prim.Native.Nat.{ℕ}
 use Rattle.bits.specs.Str.{Bits}
-use Rattle.block.specs.Block.{front}
 use Rattle.session.specs.declared.Purpose.{Purpose}
 use Rattle.session.specs.declared.Session.{Session}
 use Rattle.session.specs.Record.{stateIn, standing, aimed, closedFaults, countsClosed}
@@ -39,8 +35,3 @@ module _ (p : Purpose) (e : List ℕ) (s : Session) where
   pub aimed-end : (other ten : Bool) → endFaults (aimed p e s) other ten ≡ endFaults s other ten
   unfolding endFaults countsClosed closedFaults aimed
   aimed-end other ten = refl
-
--- the bytes of a tag that stand in a block, and zeros after them
-pub front-kept : (n : ℕ) (w : List ℕ) → length w ≡ n → n ≤ 16 → take n (front w) ≡ w
-unfolding front
-front-kept n w long few = take-take n 16 (w ++ replicate 16 0) few ∙ take-append-le n w (replicate 16 0) (omega arith) ∙ take-all n w (omega arith)
