@@ -7,7 +7,7 @@ use crate::words;
 use words::print;
 
 // A program's words begin no later than here, so that the numbers of its arguments can be added to.
-const LAST: usize = 65536;
+pub(crate) const LAST: usize = 65536;
 
 // So many words may come after M.
 const FURTHER: usize = 1;

@@ -25,8 +25,6 @@
 //        8   a word alone, or the word master
 //    -----
 //    14112   bytes in all
-ghost use Prim.Native.Nat.{_≤_};
-
 mod arguments;
 mod certificate;
 mod certificate_file;
@@ -88,9 +86,11 @@ fn print_misuse() {
 }
 
 // What slipcheck says of the file of this name, where what was agreed is the three arguments from this one on and so many further ones.
-pub fn answer_named(typed: i32, name: &[u8], at: usize, further: usize)
-    requires { ⌜ at ≤ 65537 ⌝ }
-{
+pub fn answer_named(typed: i32, name: &[u8], at: usize, further: usize) {
+    if arguments::LAST + 1 < at {
+        print_misuse();
+        return;
+    }
     match arguments::agreement(at, further) {
         Agreed::Words(agreement) => check_file(typed, agreement, name),
         Agreed::Unread => print_usage(),
