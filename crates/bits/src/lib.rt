@@ -1,5 +1,7 @@
 // Words and bytes by shifts and masks: every contract is told in bits, which bits of the arguments stand where in the result. And
 // the first of several tests, by which a list of refusals is answered where each of its tests answers every input.
+#![tactic(auto)]
+
 ghost use Rattle.std.specs.Prelude.{◌≡◌, ◌∷◌, [], ◌++◌, ◌-◌, ◌%◌, ◌≤◌, take, drop};
 ghost use Rattle.bits.specs.Choice.{first_of, faults};
 ghost use Rattle.bits.specs.Str.{bits_n, bytes_bits, rotl};

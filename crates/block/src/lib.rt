@@ -2,6 +2,8 @@
 // turns and doubling are calls of it, but where whole bytes are joined, none is moved by bits. Every function answers every
 // argument but `xor_part`, `after`, `put_part` and `put`, whose bytes must be there or have room, and five that take a width n,
 // which sixteen bytes must hold.
+#![tactic(auto)]
+
 ghost use Rattle.std.specs.Prelude.{◌≡◌, ◌++◌, ◌+◌, ◌-◌, ◌≤◌, ◌<◌, length, take, drop};
 ghost use Rattle.bits.specs.Str.{bits_n, bytes_bits, xor_b, same_b, rotl, rotr, leftmost, rightmost, filled, double, every_second};
 ghost use Rattle.block.specs.Block.{front};

@@ -4,6 +4,8 @@
 // and what a public function gives out has zeros there. Round keys and the cipher's table are passed through, so that nothing is
 // computed twice within a call; the wide table is taken by `through` alone. Each block of a lent message is passed on as the part
 // that it is and worked where it lies; bytes are copied only where bits wait, before the first block or after the last.
+#![tactic(auto)]
+
 ghost use Rattle.std.specs.Prelude.{◌≡◌, ◌&&◌, not, ◌++◌, ◌+◌, ◌-◌, ◌*◌, ◌%◌, ◌≤◌, ◌<◌, length, take, replicate, eqb};
 ghost use Rattle.bits.specs.Choice.{pick};
 ghost use Rattle.bits.specs.Str.{bytes_bits, words, xor_b, rotl, rotr, double};
@@ -17,7 +19,7 @@ ghost use Rattle.chain.specs.Chain.{rounds_bits, rounds_of, key_blocks, Expanded
 pub mod back;
 
 // The round keys of K, K' and K''.
-#[derive(Drop)]
+#[derive(Clone, Copy)]
 pub struct Rounds {
     pub first: [u32; 32],
     pub second: [u32; 32],
@@ -25,14 +27,14 @@ pub struct Rounds {
 }
 
 // A chain value, and the block that waits.
-#[derive(Drop)]
+#[derive(Clone, Copy)]
 pub struct Hold {
     pub value: [u8; 16],
     pub held: [u8; 16],
 }
 
 // What a chain works under: the cipher's number, the settings and the round keys of the keys that they use.
-#[derive(Drop)]
+#[derive(Clone, Copy)]
 pub struct Keyed {
     pub cipher: usize,
     pub settings: settings::Settings,

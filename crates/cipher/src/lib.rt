@@ -2,6 +2,8 @@
 // blocks of a long message: of a cipher of n bits the first n bits count, and zeros stand after them in every answer. What differs
 // between ciphers ends here: round keys are 32 words, and the tables that are lent have one type each, `Table` and `Wide`, so that no
 // caller carries more for another cipher.
+#![tactic(auto)]
+
 ghost use Rattle.std.specs.Prelude.{◌≡◌, ◌*◌, length, take};
 ghost use Rattle.bits.specs.Str.{bytes_bits, words, xor_b, filled};
 ghost use Rattle.cipher.specs.Ciphers.{cipher_at, table_at, wide_at, round_keys_at, backwards_at, enc_at, dec_at, words_bits};

@@ -1,5 +1,7 @@
 // The four fields of a lot slip, judged before any key is looked at: refusals 20 to 24. What each field may hold is one row of the
 // format. A field is read from what is left of the slip, and a byte that is not there counts as 0, so that every slice is answered.
+#![tactic(auto)]
+
 ghost use Rattle.std.specs.Prelude.{◌≡◌, ◌+◌, ◌-◌, ◌*◌, ◌≤◌, ◌<◌, length, get_or};
 ghost use Rattle.bits.specs.Choice.{first_of};
 ghost use Rattle.fields.specs.Field.{outside, any_outside, two_bytes, length_of, end_of, field_faults};
@@ -7,7 +9,7 @@ ghost use Rattle.fields.specs.Date.{days_in, date_wrong, digit_at, two_digits, y
 ghost use Rattle.fields.specs.Layout.{places_of, layout_of, amount_of, amount_wrong, expiry_faults, amount_faults, seal_faults, layout_faults};
 
 // What a field may hold: its label, the least and the most bytes of its value, and the lowest and the highest that each may be.
-#[derive(Drop)]
+#[derive(Clone, Copy)]
 pub struct Row {
     pub label: usize,
     pub least: usize,
@@ -51,7 +53,7 @@ pub const SEAL_ROW: Row = Row {
 };
 
 // Where the fields 02, 03 and 7F begin.
-#[derive(Drop)]
+#[derive(Clone, Copy)]
 pub struct Places {
     pub lot: usize,
     pub amount: usize,
@@ -59,7 +61,7 @@ pub struct Places {
 }
 
 // Where they begin, and the first refusal of the slip's fields, 0 where there is none.
-#[derive(Drop)]
+#[derive(Clone, Copy)]
 pub struct Layout {
     pub places: Places,
     pub refusal: usize,

@@ -1,5 +1,7 @@
 // The keys: the bytes as they were given, the three keys in use that are made of them, by derivation where a master is in use, and the
 // tests on them, refusals 4 and 5. Bytes that are missing count as zero, so every slice is answered.
+#![tactic(auto)]
+
 ghost use Rattle.std.specs.Prelude.{◌≡◌, ◌&&◌, drop};
 ghost use Rattle.bits.specs.Choice.{pick};
 ghost use Rattle.bits.specs.Str.{bytes_bits, same_b};
@@ -13,7 +15,7 @@ ghost use Rattle.keys.specs.Given.{given_of, unpack_of, key_bits, Unpacks};
 ghost use Rattle.keys.specs.Faults.{key_bytes, master_wrong, key_bytes_wrong, keys_same};
 
 // K, K' and K''.
-#[derive(Drop)]
+#[derive(Clone, Copy)]
 pub struct KeyBlocks {
     pub first: [u8; 16],
     pub second: [u8; 16],
@@ -21,7 +23,7 @@ pub struct KeyBlocks {
 }
 
 // The keys in use, and the cipher calls that were made for them: a byte, so that no sum with it can wrap.
-#[derive(Drop)]
+#[derive(Clone, Copy)]
 pub struct Unpacked {
     pub keys: KeyBlocks,
     pub calls: u8,
@@ -49,7 +51,7 @@ pub fn kept(given: &[u8]) -> [u8; 32]
 // ---- the keys in use
 
 // The two keys that a master makes.
-#[derive(Drop)]
+#[derive(Clone, Copy)]
 struct Pair {
     first: [u8; 16],
     second: [u8; 16],

@@ -1,5 +1,7 @@
 // The definitions of GB/T 15852.1 stand in specs/. What the code needs of them by itself is the algorithm's row of document 01's
 // table, and q, the number of blocks of a padded message.
+#![tactic(auto)]
+
 ghost use Rattle.std.specs.Prelude.{◌≡◌, suc, ◌-◌, ◌/◌};
 ghost use Rattle.cipher.specs.Cipher.{Cipher};
 ghost use Rattle.cipher.specs.Ciphers.{cipher_at};
@@ -8,7 +10,7 @@ ghost use Rattle.mac.specs.Algorithm.{algorithm_at, row};
 
 // An algorithm's row: padding 4, or 1 to 3; K and K', or K alone; whether K and K' must differ; whether K'' is used; whether keys may
 // come from a master; the calls besides one for each block; the fewest blocks; the longest tag.
-#[derive(Drop)]
+#[derive(Clone, Copy)]
 pub struct Row {
     pub four: bool,
     pub two: bool,

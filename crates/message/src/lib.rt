@@ -1,5 +1,7 @@
 // A message and the room for its tag, judged: refusals 7 to 10, which one call and sessions share, and 41; and how many bytes hold so
 // many bits.
+#![tactic(auto)]
+
 ghost use Rattle.std.specs.Prelude.{◌≡◌, ◌+◌};
 ghost use Rattle.bits.specs.Choice.{first_of};
 ghost use Rattle.mac.specs.Tag.{bytes_for};

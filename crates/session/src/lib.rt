@@ -1,6 +1,8 @@
 // A session: the message comes in pieces, and the record goes from call to call by value. At its end a tag is made, or the tag that was
 // given at its start is checked. Each call judges the record and its own input anew, so any record is answered; the work is the heart
 // of crate chain.
+#![tactic(auto)]
+
 ghost use Rattle.std.specs.Prelude.{◌≡◌, false, ◌+◌, ◌*◌, ◌%◌, ◌≤◌, ◌<◌, length};
 ghost use Rattle.bits.specs.Choice.{first_of};
 ghost use Rattle.bits.specs.Str.{bytes_bits};
@@ -16,7 +18,7 @@ ghost use Rattle.session.specs.Record.{cleared, aimed, is_check, phase_at, phase
 ghost use Rattle.session.specs.Calls.{refused_start, fresh_of, declared_at, start_under, start_of, start_check_of, late_bits, piece_faults, fed_of, piece_of, falls_short, end_faults, tag_in, calls_in, finish_of, judged_of, finish_check_of};
 
 // Open at a byte edge, open after a part byte of 1 to 7 bits, or closed.
-#[derive(Drop)]
+#[derive(Clone, Copy)]
 pub enum Phase {
     Closed,
     Edge,
@@ -24,7 +26,7 @@ pub enum Phase {
 }
 
 // What a session is for: its finish makes a tag, or says whether the expected one is right.
-#[derive(Drop)]
+#[derive(Clone, Copy)]
 pub enum Purpose {
     Making,
     Checking,
@@ -32,7 +34,7 @@ pub enum Purpose {
 
 // What was agreed, the declared length, the bits so far, the keys as they were given, what the chain holds, and the tag that a check
 // expects: as many of the bytes count as the agreed bits fill or begin.
-#[derive(Drop)]
+#[derive(Clone, Copy)]
 pub struct Session {
     pub phase: Phase,
     pub purpose: Purpose,
@@ -45,7 +47,7 @@ pub struct Session {
 }
 
 // What a call answers, and the session it hands back.
-#[derive(Drop)]
+#[derive(Clone, Copy)]
 pub struct Step {
     pub answer: settings::Outcome,
     pub session: Session,

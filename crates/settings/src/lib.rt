@@ -1,5 +1,7 @@
 // What was agreed with a supplier, and the caller's keys, judged: refusals 1 to 5, each one test in one order. Numbers come in as
 // `usize` and nothing is narrowed before it is tested.
+#![tactic(auto)]
+
 ghost use Rattle.std.specs.Prelude.{◌≡◌};
 ghost use Rattle.keys.specs.Given.{key_bits, Unpacks};
 ghost use Rattle.settings.specs.InUse.{unpacked};
@@ -8,7 +10,7 @@ ghost use Rattle.settings.specs.Answers.{settings_of, checked_of};
 
 // What a call comes to: a start or a piece was accepted; a tag was made, a tag offered is the right one or is not, each with the
 // number of cipher calls; or the number of the refusal.
-#[derive(Drop)]
+#[derive(Clone, Copy)]
 pub enum Outcome {
     Accepted,
     Made(usize),
@@ -18,7 +20,7 @@ pub enum Outcome {
 }
 
 // What was agreed with a supplier: the settings, and whether the keys come from a master.
-#[derive(Drop)]
+#[derive(Clone, Copy)]
 pub struct Agreement {
     pub algorithm: usize,
     pub padding: usize,
@@ -27,14 +29,14 @@ pub struct Agreement {
 }
 
 // The settings that an agreement makes. No rule refuses them where they come from `checked`.
-#[derive(Drop)]
+#[derive(Clone, Copy)]
 pub struct Settings {
     pub algorithm: usize,
     pub padding: usize,
     pub m: usize,
 }
 
-#[derive(Drop)]
+#[derive(Clone, Copy)]
 pub enum Checked {
     Sound(Settings),
     Unsound(usize),

@@ -2,6 +2,8 @@
 // found once. What the slip names is compared with the agreement and used for nothing else: the seal is checked under the agreement.
 // A slip that comes in odd lengths is gathered first, and read once. And a lot slip written: nothing is put into the room before the
 // last test.
+#![tactic(auto)]
+
 ghost use Rattle.std.specs.Prelude.{◌≡◌, false, [], ◌++◌, ◌+◌, ◌≤◌, ◌<◌, length, take, drop};
 ghost use Rattle.bits.specs.Choice.{first_of};
 ghost use Rattle.fields.specs.Layout.{places_of, seal_field, covered, layout_faults};
@@ -13,7 +15,7 @@ ghost use Rattle.writing.specs.Writing.{said};
 ghost use Rattle.slip.specs.Printed.{sealed_by, unwritten_slip, seal_head, put_of, write_under, write_of};
 
 // What a slip says: the expiry, the amount in microlitres, and where in the slip the lot lies.
-#[derive(Drop)]
+#[derive(Clone, Copy)]
 pub struct Contents {
     pub year: usize,
     pub month: usize,
@@ -24,7 +26,7 @@ pub struct Contents {
 }
 
 // What is read from a slip. Accepted: number 0, the cipher calls of its check, and what it says. Refused: the number, and zeros.
-#[derive(Drop)]
+#[derive(Clone, Copy)]
 pub struct Slip {
     pub number: usize,
     pub calls: usize,
@@ -145,7 +147,7 @@ pub fn lot<'a>(agreement: settings::Agreement, keys: &[u8], slip: &'a [u8]) -> &
 // The bytes of a slip that came so far, and zeros after them. Only the first 76 can matter, so no more are kept; the last four places
 // stay zero and are not read (they end the struct in C), and a count over 76 is read as 76. A record of zeros is empty.
 #[repr(C)]
-#[derive(Drop)]
+#[derive(Clone, Copy)]
 pub struct Gathered {
     pub count: usize,
     pub bytes: [u8; 80],
@@ -221,7 +223,7 @@ impl Gathered {
 
 // What was written. Accepted: number 0, the slip's length in bytes and the cipher calls of its seal. Refused: the number, and zeros.
 #[repr(C)]
-#[derive(Drop)]
+#[derive(Clone, Copy)]
 pub struct Written {
     pub number: usize,
     pub length: usize,

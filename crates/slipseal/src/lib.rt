@@ -1,5 +1,7 @@
 // The library for C and for whatever calls C: each function hands its arguments on and turns the answer into numbers. What was agreed
 // and a session cross as numbers and arrays; any content of them is answered, and a refusal hands back the very struct that came.
+#![tactic(auto)]
+
 ghost use Rattle.std.specs.Prelude.{◌≡◌};
 ghost use Rattle.tag.specs.OneCall.{make_of, check_of};
 ghost use Rattle.tag.specs.Restore.{restore_of, restored_number};
@@ -12,7 +14,7 @@ ghost use Rattle.slipseal.specs.Border.{agreed_of, master_number, agreed_back, t
 
 // master: 0 for no, any other number for yes; in a session 0 or 1.
 #[repr(C)]
-#[derive(Drop)]
+#[derive(Clone, Copy)]
 pub struct Agreement {
     pub algorithm: usize,
     pub padding: usize,
@@ -22,7 +24,7 @@ pub struct Agreement {
 
 // number: 0, or the refusal's. yes: 1 for a tag made and for a tag checked to be right, in one call or at a finish; else 0.
 #[repr(C)]
-#[derive(Drop)]
+#[derive(Clone, Copy)]
 pub struct Answer {
     pub number: usize,
     pub yes: usize,
@@ -31,7 +33,7 @@ pub struct Answer {
 
 // phase: 0 closed, 1 at a byte edge, 2 after a part byte, whose 1 to 7 bits are told by part. purpose: 0 making, 1 checking.
 #[repr(C)]
-#[derive(Drop)]
+#[derive(Clone, Copy)]
 pub struct Session {
     pub phase: usize,
     pub part: usize,
@@ -47,7 +49,7 @@ pub struct Session {
 
 // number: 0, or the refusal's. The lot is the lot_len bytes of the slip from lot_at on.
 #[repr(C)]
-#[derive(Drop)]
+#[derive(Clone, Copy)]
 pub struct Slip {
     pub number: usize,
     pub year: usize,
@@ -60,7 +62,7 @@ pub struct Slip {
 }
 
 #[repr(C)]
-#[derive(Drop)]
+#[derive(Clone, Copy)]
 pub struct Step {
     pub answer: Answer,
     pub session: Session,

@@ -1,9 +1,11 @@
 // SM4, the block cipher of GB/T 32907-2016. Byte table and rotations are joined in tables of words: a round looks up what each of
 // the four bytes adds. A table is lent through every call, so that no hot function copies it: a caller takes `let t = sm4::table();`
 // once. Long messages take a wide table besides, which spares them the turning of what is looked up; there it is worth its copying.
+#![tactic(auto)]
+
 ghost use Rattle.std.specs.Prelude.{◌≡◌, reverse, ◌*◌, ◌<◌, ◌≤◌, length, take, drop};
 ghost use Rattle.bits.specs.Str.{bits_n, bytes_bits, words, xor_b};
-ghost use Rattle.sm4.specs.Constants.{FK, ck, CK};
+ghost use Rattle.sm4.specs.Constants.{fk, ck, CK};
 ghost use Rattle.sm4.specs.Cipher.{quad, flat, four, Sbox, L, T, rounds, R, enc, dec, round_keys};
 ghost use Rattle.sm4.specs.Table.{rotations, mixing, placed, table, wide};
 ghost use Rattle.sm4.specs.Split.{joined, Ready, Stepped};
@@ -52,7 +54,7 @@ fn wide_added(w: &Wide, j: usize, x: u8) -> u32
 // The newest of the four words is m ^ n, and q is what the next round mixes with it: the two words before and its key. So kept, the
 // look-ups of a round follow those of the round before after three xors. That also hangs on how the steps are written: with
 // (s.n ^ s.q) ^ s.m in a function of its own, the compiler joins m ^ n first, and there is one xor more to wait for.
-#[derive(Drop)]
+#[derive(Clone, Copy)]
 struct Split {
     x0: u32,
     x1: u32,
@@ -252,7 +254,7 @@ const FK: [u32; 4] = [0xa3b1bac6, 0x56aa3350, 0x677d9197, 0xb27022dc];
 
 // MK xor FK.
 fn key_start(key: [u8; 16]) -> [u32; 4]
-    ensures { four (words result) ≡ quad (xor_b (bytes_bits key) (flat (four (words FK)))) }
+    ensures { four (words result) ≡ quad (xor_b (bytes_bits key) (flat (four (words fk)))) }
 {
     xor(load(&key), FK)
 }

@@ -1,5 +1,7 @@
 // A tag in one call: made, or checked, or a lost block of the message worked out of it. Every input is answered; the message is worked
 // block by block where it lies.
+#![tactic(auto)]
+
 ghost use Rattle.std.specs.Prelude.{◌≡◌, suc, ◌*◌, ◌≤◌, length};
 ghost use Rattle.bits.specs.Str.{bytes_bits};
 ghost use Rattle.block.specs.Block.{storage, filled_block};
@@ -15,7 +17,7 @@ ghost use Rattle.tag.specs.OneCall.{tag_at, make_of, check_of, make_under, check
 ghost use Rattle.tag.specs.Restore.{full_only, lost_at, restore_of, restore_under};
 
 // What a lost block comes to: it stands in the message again, or the number of the refusal.
-#[derive(Drop)]
+#[derive(Clone, Copy)]
 pub enum Restored {
     Filled,
     Refused(usize),

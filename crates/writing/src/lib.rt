@@ -1,5 +1,7 @@
 // The fields of a slip that its seal covers, written by the rows of the format that reading uses: what cannot be written, refusals
 // 22 and 23, and the bytes. Numbers come in as `usize`, and nothing is narrowed before it is tested.
+#![tactic(auto)]
+
 ghost use Rattle.std.specs.Prelude.{◌≡◌, ◌++◌, ◌+◌, ◌≤◌, ◌<◌, length, drop};
 ghost use Rattle.bits.specs.Choice.{first_of};
 ghost use Rattle.fields.specs.Field.{field_of};
@@ -7,7 +9,7 @@ ghost use Rattle.writing.specs.Writing.{said, value_wrong, says_faults, digit_of
 
 // The covered bytes of a slip: so many, and zeros after them; 53 at the most, of which 3 + 8 are the expiry's, 3 + 32 the lot's and 3 + 4
 // the amount's. Or the refusal, and zeros.
-#[derive(Drop)]
+#[derive(Clone, Copy)]
 pub struct Covered {
     pub refusal: usize,
     pub count: usize,

@@ -1,0 +1,17 @@
+-- `any_outside` meets its contract: the invariant says that what is left decides the answer (`any_outside-at` at each byte).
+-- Assumes nothing.
+use mathlib.Core.Path.{◌≡◌, refl, sym, ap, ◌∙◌}
+use mathlib.Core.Bool.{Bool, true, false, ◌||◌}
+use native.Mathlib.Omega.{arith}
+use Prim.Native.Nat.{◌+◌, ◌-◌, ◌≤◌}
+use lib.ListN.{length, drop, get_or, drop_of_length-le}
+use Rattle.fields.specs.Field.{outside, any_outside}
+use Rattle.fields.proofs.Formed.{any_outside-at}
+use borrow.Author.Rules.{rules}
+use Rattle.fields.proofs.any_outside.Given as goal
+
+abbrev pub invariant-loop-i : goal.invariant-loop-i
+invariant-loop-i l = (any_outside l.least l.most (drop l.i l.s) ≡ any_outside l.least l.most l.s) × (l.i ≤ length l.s)
+
+abbrev pub decreases-loop-i : goal.decreases-loop-i
+decreases-loop-i l = length l.s - l.i

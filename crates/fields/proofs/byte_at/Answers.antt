@@ -1,0 +1,16 @@
+-- `byte_at` meets its contract: the byte there, and 0 past the end.
+-- Assumes nothing.
+use mathlib.Core.Path.{refl, sym}
+use native.Mathlib.Omega.{arith}
+use lib.ListN.{get_or-eq_default}
+use borrow.Author.Rules.{rules}
+use Rattle.fields.proofs.byte_at.Goals as goal
+
+pub overflow_cast-result : goal.overflow_cast-result
+overflow_cast-result c = omega (arith, c.type_inv.s c.args.i)
+
+pub returns-then-i-s : goal.returns-then-i-s
+returns-then-i-s c = (refl, (c.type_inv.s c.args.i).fits)
+
+pub returns : goal.returns
+returns c = (sym (get_or-eq_default c.args.s.now 0 c.if-i-s.false), omega arith)

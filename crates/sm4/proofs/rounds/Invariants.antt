@@ -1,0 +1,16 @@
+-- `rounds` meets its contract. The loop's invariant is the walk so far (Walk.antt), the measure is the number of rounds left.
+-- Assumes nothing.
+use mathlib.Core.Path.{ap, ◌∙◌}
+use Prim.Native.Nat.{◌-◌}
+use borrow.Author.Rules.{rules}
+use Rattle.bits.specs.Str.{words}
+use Rattle.sm4.specs.Cipher.{R, T}
+use Rattle.sm4.specs.Table.{mixing}
+use Rattle.sm4.proofs.Walk.{Walked, keys-start, keys_on, walk_end}
+use Rattle.sm4.proofs.rounds.Given as goal
+
+abbrev pub invariant-loop-turn : goal.invariant-loop-turn
+invariant-loop-turn l = Walked T (words l.rk) l.initial.s l.s l.turn
+
+abbrev pub decreases-loop-turn : goal.decreases-loop-turn
+decreases-loop-turn l = 32 - l.turn

@@ -1,0 +1,14 @@
+-- `wide` meets its contract: antt computes all 768 entries by the rule, and the code's constant is these, number for number.
+-- Assumes nothing.
+use mathlib.Core.Path.{refl}
+use mathlib.Core.List.{zip_with}
+use mathlib.Core.Bool.{xor}
+use Rattle.bits.specs.Str.{digit, bits_n, num_of, zeros, xor_b, rotl}
+use Rattle.sm4.specs.Constants.{sbox}
+use Rattle.sm4.specs.Cipher.{Sbox, L}
+use Rattle.sm4.specs.Table.{placed, entry, entries, wide}
+use Rattle.sm4.proofs.wide.Goals as goal
+
+pub returns : goal.returns
+unfolding wide entries entry placed Sbox sbox L rotl xor_b zip_with xor zeros bits_n digit num_of
+returns c = refl
