@@ -7,7 +7,7 @@ use mathlib.Core.List.{[], flat_map, zip_with}
 use Prim.Native.Nat.{ℕ}
 use Rattle.bits.specs.Choice.{pick}
 use Rattle.bits.specs.Str.{Bits, bits_n, digit, num_of, bytes_bits, words, zeros, xor_b, rotl, rotr, leftmost, rightmost, shiftl, double, halves_flipped, every_second}
-use Rattle.sm4.specs.Constants.{sbox, FK, ck, CK, CKs}
+use Rattle.sm4.specs.Constants.{sbox, fk, ck, CK, CKs}
 use Rattle.sm4.specs.Cipher.{quad, flat, four, Sbox, τ, L, L', T, T', F, round, rounds, made, R, enc, dec, round_keys, encrypted, decrypted}
 use Rattle.mac.specs.Padding.{Method, method1, method2, method3, method4, complete, gap, one_gap, prefix, suffix, pad, D}
 use Rattle.mac.specs.Algorithm.{Algorithm, alg1, alg2, alg3, alg4, alg5, alg6, alg7, alg8, Keys, keys, step, steps}
@@ -38,7 +38,7 @@ pub record Vectors : Type 0 where
   pub A9-incomplete : tag alg8 method4 pair 128 text2 ≡ bits_n 128 0xa99d13013e892ee2c25be2daaa6c82e8
 
 pub vectors : Vectors
-unfolding Derive.derived keys_used tag_of mac steps step some H G D complete gap one_gap prefix suffix pad pick bytes_bits flat_map words bits_n digit num_of zeros xor_b zip_with xor rotl rotr leftmost rightmost shiftl double halves_flipped every_second quad flat four Sbox τ L L' T T' F round rounds made R enc dec round_keys encrypted decrypted sbox FK ck CK CKs
+unfolding Derive.derived keys_used tag_of mac steps step some H G D complete gap one_gap prefix suffix pad pick bytes_bits flat_map words bits_n digit num_of zeros xor_b zip_with xor rotl rotr leftmost rightmost shiftl double halves_flipped every_second quad flat four Sbox τ L L' T T' F round rounds made R enc dec round_keys encrypted decrypted sbox fk ck CK CKs
 vectors = record {
   A2 = refl;
   A3 = refl;

@@ -11,51 +11,44 @@ use Rattle.cipher.proofs.Widths.{Width}
 use Rattle.cipher.proofs.Laws.{width-at, lawful-at}
 use Rattle.mac.proofs.Padded.{needed, count-two, count-three, count-other, eighth}
 use borrow.Author.Rules.{rules}
-use Rattle.mac.proofs.block_count.Statement.{statement}
-use Rattle.mac.proofs.block_count.Tie as tie
+use Rattle.mac.proofs.block_count.Goals as goal
 
 a_byte : (c : ℕ) → 8 ≤ (cipher_at c).n
 a_byte c = let W = width-at c in omega (arith, W.whole, W.some)
 
-div-result : tie.Need-nonzero-div-result
-div-result c = omega (arith, (lawful-at c.before.before.args.cipher).wide, c.width.ensures)
+pub nonzero_div-result : goal.nonzero_div-result
+nonzero_div-result c = omega (arith, (lawful-at c.args.cipher).wide, c.width.ensures)
 
-add-result : tie.Need-overflow-add-result
-add-result c =
-    let a = c.before.before.args in
+pub overflow_add-result : goal.overflow_add-result
+overflow_add-result c =
+    let a = c.args in
     omega (arith, eighth c.width.result a.bits (omega (arith, a_byte a.cipher, c.width.ensures)))
 
-returns : tie.Need-returns
-returns c =
-    let a = c.before.before.args in
+pub returns-then-padding-eq2 : goal.returns-then-padding-eq2
+returns-then-padding-eq2 c =
+    let a = c.args in
     let n = (cipher_at a.cipher).n in
     add-one (a.bits / c.width.result) ∙ ap (λ (k : ℕ). suc (a.bits / k)) c.width.ensures
-    ∙ sym (count-two n a.bits (lawful-at a.cipher).wide a.padding c.before.if1.true)
+    ∙ sym (count-two n a.bits (lawful-at a.cipher).wide a.padding c.if-padding-eq2.true)
 
-add-result-2 : tie.Need-overflow-add-result-2
-add-result-2 c =
-    let a = c.before.before.before.args in
+pub overflow_add-result-then-padding-eq3 : goal.overflow_add-result-then-padding-eq3
+overflow_add-result-then-padding-eq3 c =
+    let a = c.args in
     let n = (cipher_at a.cipher).n in
     omega (arith, c.needed.ensures, eighth n (a.bits - 1) (a_byte a.cipher))
 
-returns-2 : tie.Need-returns-2
+pub returns-then-padding-eq3 : goal.returns-then-padding-eq3
 unfolding needed
-returns-2 c =
-    let a = c.before.before.before.args in
+returns-then-padding-eq3 c =
+    let a = c.args in
     let n = (cipher_at a.cipher).n in
     add-one c.needed.result ∙ ap suc c.needed.ensures
-    ∙ sym (count-three n a.bits (lawful-at a.cipher).wide a.padding c.before.if2.true)
+    ∙ sym (count-three n a.bits (lawful-at a.cipher).wide a.padding c.if-padding-eq3.true)
 
-returns-3 : tie.Need-returns-3
+pub returns : goal.returns
 unfolding needed
-returns-3 c =
-    let a = c.before.before.before.args in
+returns c =
+    let a = c.args in
     let n = (cipher_at a.cipher).n in
-    c.needed2.ensures
-    ∙ sym (count-other n a.bits (lawful-at a.cipher).wide a.padding c.before.before.if1.false c.before.if2.false)
-
-pub block-count-spec : {M : Type 1} → statement M
-block-count-spec =
-    tie.close
-    (tie.spec (λ c κs. search rules) div-result add-result returns (λ c κs. search rules) add-result-2 returns-2
-    (λ c κs. search rules) returns-3)
+    c.needed-2.ensures
+    ∙ sym (count-other n a.bits (lawful-at a.cipher).wide a.padding c.if-padding-eq2.false c.if-padding-eq3.false)
