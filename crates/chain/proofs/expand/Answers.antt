@@ -1,0 +1,14 @@
+-- `expand` meets its contract, field by field: what `schedule`, `row_of` and `expanded_where` ensure.
+-- Assumes nothing.
+use Rattle.chain.specs.Chain.{rounds_bits, rounds_of, key_blocks}
+use borrow.Author.Rules.{rules}
+use Rattle.chain.proofs.expand.Goals as goal
+
+pub returns : goal.returns
+unfolding rounds_bits rounds_of key_blocks
+returns c =
+    let row = c.row_of-row.ensures in
+    let first = c.schedule-first.ensures in
+    let second = rw row at c.expanded_where-second.ensures in
+    let third = rw row at c.expanded_where-third.ensures in
+    λ i. record { k = first i; k' = second i; k'' = third i }
