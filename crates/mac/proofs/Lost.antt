@@ -1,9 +1,7 @@
--- The lost block that is worked out (`lost_block`) is the one filling of demand 3's second sentence, at any block width n; algorithm,
--- padding and keys are any.
+-- The lost block that is worked out (`lost_block`), at any block width n; algorithm, padding and keys are any.
 --
 -- `lost-refilled`: worked out of the full tag of a message with any filling in that block, it is that filling, whatever the block holds
---     in the message that is given.
--- `lost-filling`: so for every string of n bits it is the filling of `one-filling`, which is the only one that the tag fits.
+--     in the message that is given. So it is the one filling of demand 3's second sentence (LostFilling.antt).
 --
 -- The proof: each way back undoes its step (`undoes`), so backwards from G what a block xor its chain value must be is what it is
 -- (`wanted-is`).
@@ -208,30 +206,3 @@ module _ (C : Cipher) (L : Lawful C) (A : Algorithm) (M : Method) (K : Keys) whe
 
         tag : full C A M K (refilled n j x b) ≡ (G n S P w).out
         tag = full-value C L A M K l (refilled n j x b) same_length ∙ ap (λ (Q : Bits). (G n S Q w).out) regroup
-
-    pub lost-filling : (t : Bits) (ht : length t ≡ n) → lost_block C A M K j x t ≡ (one-filling C L A M K j x fits t ht).filling
-    lost-filling t ht =
-        let one = one-filling C L A M K j x fits t ht in
-        ap (lost_block C A M K j x) (sym one.fits) ∙ lost-refilled one.filling one.long
-
-    -- put into its place it has the tag, and nothing else has
-    pub lost-long : (t : Bits) → length t ≡ n → length (lost_block C A M K j x t) ≡ n
-    lost-long t ht = ap length (lost-filling t ht) ∙ (one-filling C L A M K j x fits t ht).long
-
-    pub lost-fits : (t : Bits) → length t ≡ n → full C A M K (refilled n j x (lost_block C A M K j x t)) ≡ t
-    lost-fits t ht = ap (λ (b : Bits). full C A M K (refilled n j x b)) (lost-filling t ht) ∙ (one-filling C L A M K j x fits t ht).fits
-
-    pub lost-only : (t b : Bits) → length b ≡ n → full C A M K (refilled n j x b) ≡ t → b ≡ lost_block C A M K j x t
-    lost-only t b hb e = sym (lost-refilled b hb) ∙ ap (lost_block C A M K j x) e
-
-  -- what the block holds has no influence
-  pub lost-same : (j : ℕ) (x y : Bits) → Apart n j x y → (t : Bits) → lost_block C A M K j x t ≡ lost_block C A M K j y t
-  unfolding lost_block
-  lost-same j x y h t = λ i. at (h.same_length i) (h.same-before i) (h.same_after i)
-    where
-      at : ℕ → Bits → Bits → Bits
-      at l u v =
-          let before = prefix M n l ++ u in
-          let after = v ++ suffix M n l in
-          let i = length before / n in
-          xor_b (wanted n (backs C A K) (complete n l) t (length after / n) (some i) after) (H n (steps C A K).out before i).out

@@ -14,7 +14,7 @@ use Rattle.mac.specs.Padding.{Method}
 use Rattle.mac.specs.Algorithm.{Algorithm, Keys}
 use Rattle.mac.specs.Lost.{lost_block}
 use Rattle.mac.proofs.OneBlock.{Exactly, one-filling}
-use Rattle.mac.proofs.Lost.{lost-filling}
+use Rattle.mac.proofs.LostFilling.{lost-filling}
 use Rattle.mac.proofs.Promised.{Promised, promised}
 
 -- the first 64 bits of a key with zeros after it
