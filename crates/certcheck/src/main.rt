@@ -1,4 +1,6 @@
 // The program: checks the certificate in a file under its tag, with the keys on standard input. Here: a good certificate.
-fn main() {
-    tool::run_certificate();
+#![tactic(auto)]
+
+fn main(rt: HostRuntime) {
+    tool::run_certificate(&rt);
 }

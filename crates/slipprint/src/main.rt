@@ -1,4 +1,6 @@
 // The program: seals what its arguments say under the keys on standard input, and writes the slip into a new file. Here: a good slip.
-fn main() {
-    tool::run_print();
+#![tactic(auto)]
+
+fn main(rt: HostRuntime) {
+    tool::run_print(&rt);
 }

@@ -2,13 +2,15 @@
 // them five make a row.
 use crate::rows;
 use rows::Program;
+use std::io;
+use std::rt::Runtime;
 
 const FIRST_ROW: usize = 5;
 
-pub(crate) fn run() {
-    rows::alone(Program::Slipcheck);
-    rows::words(Program::Slipcheck, 4, 1);
-    rows::words(Program::Slipcheck, FIRST_ROW + 1, 3);
-    rows::words(Program::Slipcheck, FIRST_ROW + 1, 5);
-    rows::rows(Program::Slipcheck, FIRST_ROW, 34, 0);
+pub(crate) fn run(rt: &impl Runtime) -> io::Result<()> {
+    rows::alone(rt, Program::Slipcheck)?;
+    rows::words(rt, Program::Slipcheck, 4, 1)?;
+    rows::words(rt, Program::Slipcheck, FIRST_ROW + 1, 3)?;
+    rows::words(rt, Program::Slipcheck, FIRST_ROW + 1, 5)?;
+    rows::rows(rt, Program::Slipcheck, FIRST_ROW, 34, 0)
 }

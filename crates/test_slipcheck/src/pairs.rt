@@ -1,36 +1,36 @@
 // slipprint on words of this program's own arguments, then slipcheck on the file that it was to make, under the same agreement. After
 // the arguments that checks.rt and certificates.rt take, eight make a row.
-ghost use Rattle.std.specs.Prelude.{◌≤◌};
-ghost use Rattle.io.specs.Counts.{IsPrefixLen};
+ghost use Rattle.std.specs.Prelude.{◌≤◌, length};
 
 use crate::rows;
 use rows::Program;
+use std::env::{Env, FillError};
+use std::fs::Files;
+use std::rt::Runtime;
+use std::{fs, io};
 
 const FIRST_ROW: usize = 535;
 
-// What a slip's file can have, and one byte more.
-const MOST: usize = 76;
-
-pub(crate) fn run() {
-    rows::alone(Program::Slipprint);
-    rows::words(Program::Slipprint, FIRST_ROW + 1, 6);
-    rows::words(Program::Slipprint, FIRST_ROW + 1, 8);
-    rows::rows(Program::Slipprint, FIRST_ROW, 104, 0);
-    compare(b"printed", b"slip");
-    compare(b"two", b"two_keys");
-    compare(b"zeros", b"slip");
+pub(crate) fn run(rt: &impl Runtime) -> io::Result<()> {
+    rows::alone(rt, Program::Slipprint)?;
+    rows::words(rt, Program::Slipprint, FIRST_ROW + 1, 6)?;
+    rows::words(rt, Program::Slipprint, FIRST_ROW + 1, 8)?;
+    rows::rows(rt, Program::Slipprint, FIRST_ROW, 104, 0)?;
+    compare(rt, "printed", "slip")?;
+    compare(rt, "two", "two_keys")?;
+    compare(rt, "zeros", "slip")
 }
 
 // slipcheck on the file that a row of so many arguments was to make, with the row's keys and its agreement.
-pub(crate) fn check_made(at: usize, size: usize)
+pub(crate) fn check_made(rt: &impl Runtime, at: usize, size: usize) -> io::Result<()>
     requires { at ≤ 4096 }
 {
-    print(b"--\n");
-    let typed = open_keys(at);
-    let mut name = io::buffer();
-    let n = os::arg(at + 1, &mut name);
-    tool::answer_named(typed, &name[..n], at + 5, further(size));
-    libc::close(typed);
+    rt.write_all(b"--\n")?;
+    let mut typed = open_keys(rt, at)?;
+    let mut name = [0u8; 4096];
+    let n = word(rt, at + 1, &mut name);
+    tool::answer_named(rt, &mut typed, &name[..n], at + 5, further(size));
+    Ok(())
 }
 
 // The words after M in a row of so many arguments.
@@ -42,65 +42,58 @@ fn further(size: usize) -> usize {
 }
 
 // The file of a row's typed keys, open.
-pub(crate) fn open_keys(at: usize) -> i32 {
-    let mut room = io::buffer();
-    let n = os::arg(at, &mut room);
-    os::open_read(&room[..n])
+pub(crate) fn open_keys<R: Runtime>(rt: &R, at: usize) -> io::Result<R::File> {
+    let mut room = [0u8; 4096];
+    let n = word(rt, at, &mut room);
+    match str::from_utf8(&room[..n]) {
+        Ok(name) => fs::open(rt, name),
+        Err(_) => Err(io::Error::from(io::ErrorKind::InvalidData)),
+    }
+}
+
+// Puts an argument into the room and gives its length, 0 where it does not fit.
+fn word(rt: &impl Env, at: usize, room: &mut [u8]) -> usize
+    ensures { result ≤ length room.new }
+{
+    match rt.arg(at, room) {
+        Ok(n) => n,
+        Err(_) => 0,
+    }
 }
 
 // A line with so many arguments from one on.
-pub(crate) fn print_words(at: usize, count: usize)
+pub(crate) fn print_words(rt: &impl Runtime, at: usize, count: usize) -> io::Result<()>
     requires { (at ≤ 65536) × (count ≤ 9) }
 {
-    print(b"==");
-    let mut i = 0;
-    while i < count {
-        print_word(at + i);
-        i += 1;
+    rt.write_all(b"==")?;
+    for i in 0..count {
+        print_word(rt, at + i)?;
     }
-    print(b"\n");
+    rt.write_all(b"\n")
 }
 
 // A blank and an argument, of a long one the beginning.
-fn print_word(at: usize) {
+fn print_word(rt: &impl Runtime, at: usize) -> io::Result<()> {
     let mut room = [0u8; 40];
-    let n = os::arg(at, &mut room);
-    let wrong = os::errno();
-    print(b" ");
-    if wrong == libc::ENAMETOOLONG {
-        print(&room);
-        print(b"..");
-        return;
+    let given = rt.arg(at, &mut room);
+    rt.write_all(b" ")?;
+    match given {
+        Ok(n) => rt.write_all(&room[..n]),
+        Err(FillError::NotPresent) => Ok(()),
+        Err(FillError::TooLong) => {
+            rt.write_all(&room)?;
+            rt.write_all(b"..")
+        }
     }
-    print(&room[..n]);
 }
 
 // Whether two slips' files have the same bytes.
-pub(crate) fn compare(name: &[u8], other: &[u8]) {
-    let mut room = [0u8; MOST];
-    let n = read(name, &mut room);
-    let mut other_room = [0u8; MOST];
-    let other_n = read(other, &mut other_room);
-    print(b"== ");
-    print(name);
-    print(b" and ");
-    print(other);
-    if check::same(&room[..n], &other_room[..other_n]) {
-        print(b" are the same\n");
-        return;
+pub(crate) fn compare(rt: &impl Runtime, name: &str, other: &str) -> io::Result<()> {
+    let bytes = fs::read(rt, name)?;
+    let other_bytes = fs::read(rt, other)?;
+    print!(rt; "== {name} and {other}")?;
+    if bytes.as_slice() == other_bytes.as_slice() {
+        return println!(rt; " are the same");
     }
-    print(b" differ\n");
-}
-
-fn read(name: &[u8], room: &mut [u8]) -> usize
-    ensures { IsPrefixLen result room.new }
-{
-    let file = os::open_read(name);
-    let n = io::read_full(file, room);
-    libc::close(file);
-    n
-}
-
-fn print(text: &[u8]) {
-    io::write_all(libc::STDOUT_FILENO, text);
+    println!(rt; " differ")
 }

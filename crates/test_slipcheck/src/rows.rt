@@ -2,8 +2,11 @@
 ghost use Rattle.std.specs.Prelude.{◌+◌, ◌*◌, ◌≤◌, ◌<◌};
 
 use crate::pairs;
+use std::io;
+use std::io::Read;
+use std::rt::Runtime;
 
-#[derive(Drop)]
+#[derive(Clone, Copy)]
 pub(crate) enum Program {
     Slipcheck,
     Certcheck,
@@ -21,54 +24,58 @@ fn width(program: Program) -> usize
     }
 }
 
-fn answer(program: Program, typed: i32, at: usize, count: usize) {
+fn answer(rt: &impl Runtime, program: Program, typed: &mut impl Read, at: usize, count: usize) {
     match program {
-        Program::Slipcheck => tool::answer(typed, at, count),
-        Program::Certcheck => tool::answer_certificate(typed, at, count),
-        Program::Slipprint => tool::answer_print(typed, at, count),
+        Program::Slipcheck => tool::answer(rt, typed, at, count),
+        Program::Certcheck => tool::answer_certificate(rt, typed, at, count),
+        Program::Slipprint => tool::answer_print(rt, typed, at, count),
     }
 }
 
 // Words alone: a number of them that the program does not take, a word that asks how it is used, the vectors, or another than master
 // in its place.
-pub(crate) fn words(program: Program, at: usize, count: usize)
+pub(crate) fn words(rt: &impl Runtime, program: Program, at: usize, count: usize) -> io::Result<()>
     requires { (at ≤ 65536) × (count ≤ 9) }
 {
-    pairs::print_words(at, count);
-    answer(program, libc::STDIN_FILENO, at, count);
+    pairs::print_words(rt, at, count)?;
+    answer(rt, program, &mut rt.reader(), at, count);
+    Ok(())
 }
 
 // No word at all, then each of the first three arguments alone.
-pub(crate) fn alone(program: Program) {
-    words(program, 1, 0);
-    words(program, 1, 1);
-    words(program, 2, 1);
-    words(program, 3, 1);
+pub(crate) fn alone(rt: &impl Runtime, program: Program) -> io::Result<()> {
+    words(rt, program, 1, 0)?;
+    words(rt, program, 1, 1)?;
+    words(rt, program, 2, 1)?;
+    words(rt, program, 3, 1)
 }
 
 // So many rows from this argument on, with so many words after M in each.
-pub(crate) fn rows(program: Program, first: usize, rows: usize, further: usize)
+pub(crate) fn rows(
+    rt: &impl Runtime,
+    program: Program,
+    first: usize,
+    rows: usize,
+    further: usize,
+) -> io::Result<()>
     requires { (first + 9 * rows ≤ 4096) × (further ≤ 1) }
 {
     let size = width(program) + further;
-    let mut at = first;
-    let mut left = rows;
-    while 0 < left {
-        row(program, at, size);
-        at += size;
-        left -= 1;
+    for i in 0..rows {
+        row(rt, program, first + size * i, size)?;
     }
+    Ok(())
 }
 
-fn row(program: Program, at: usize, size: usize)
+fn row(rt: &impl Runtime, program: Program, at: usize, size: usize) -> io::Result<()>
     requires { (at ≤ 4096) × ((0 < size) × (size ≤ 9)) }
 {
-    pairs::print_words(at, size);
-    let typed = pairs::open_keys(at);
-    answer(program, typed, at + 1, size - 1);
-    libc::close(typed);
+    pairs::print_words(rt, at, size)?;
+    let mut typed = pairs::open_keys(rt, at)?;
+    answer(rt, program, &mut typed, at + 1, size - 1);
+    drop(typed);
     match program {
-        Program::Slipprint => pairs::check_made(at, size),
-        _ => {}
+        Program::Slipprint => pairs::check_made(rt, at, size),
+        _ => Ok(()),
     }
 }

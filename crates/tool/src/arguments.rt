@@ -3,6 +3,7 @@
 ghost use Rattle.std.specs.Prelude.{◌≤◌};
 
 use crate::{first, numbers, words};
+use std::env::{Env, FillError};
 use words::print;
 
 // A program's words begin no later than here, so that the numbers of its arguments can be added to.
@@ -32,8 +33,14 @@ pub(crate) enum Asked {
 }
 
 // What is asked for where the words are so many arguments from this one on, and the program takes so many up to M.
-pub(crate) fn words_ask(at: usize, count: usize, taken: usize, name: &mut [u8]) -> Asked {
-    if count == 1 && is_help(at) {
+pub(crate) fn words_ask(
+    rt: &impl Env,
+    at: usize,
+    count: usize,
+    taken: usize,
+    name: &mut [u8],
+) -> Asked {
+    if count == 1 && is_help(rt, at) {
         return Asked::Help;
     }
     if count < taken {
@@ -46,12 +53,11 @@ pub(crate) fn words_ask(at: usize, count: usize, taken: usize, name: &mut [u8]) 
     if LAST < at {
         return Asked::Misuse;
     }
-    let n = os::arg(at, name);
-    let wrong = os::errno();
-    if wrong != 0 {
-        return Asked::Unnamed(wrong);
+    match rt.arg(at, name) {
+        Ok(n) => Asked::Named(n, further),
+        Err(FillError::NotPresent) => Asked::Unnamed(words::NO_SUCH_ARGUMENT),
+        Err(FillError::TooLong) => Asked::Unnamed(words::NAME_TOO_LONG),
     }
-    Asked::Named(n, further)
 }
 
 // The argument after the first one.
@@ -65,49 +71,60 @@ pub(crate) fn second(at: usize) -> usize
 }
 
 // How many words came after the program's own name.
-pub(crate) fn count() -> usize {
-    let count = os::arg_count();
-    if count == 0 {
-        return 0;
+pub(crate) fn count(rt: &impl Env) -> usize {
+    for i in 0..usize::MAX {
+        if is_missing(rt, i + 1) {
+            return i;
+        }
     }
-    count - 1
+    usize::MAX
+}
+
+// Whether there is no such argument.
+fn is_missing(rt: &impl Env, at: usize) -> bool {
+    let mut room = [0u8; 8];
+    match rt.arg(at, &mut room) {
+        Err(FillError::NotPresent) => true,
+        _ => false,
+    }
 }
 
 // Puts an argument into the room and gives its length. One that is too long fills the room, so a room has a byte more than is good.
-pub(crate) fn word(at: usize, room: &mut [u8]) -> usize {
-    let n = os::arg(at, room);
-    if os::errno() == libc::ENAMETOOLONG {
-        return room.len();
+pub(crate) fn word(rt: &impl Env, at: usize, room: &mut [u8]) -> usize {
+    match rt.arg(at, room) {
+        Ok(n) => n,
+        Err(FillError::NotPresent) => 0,
+        Err(FillError::TooLong) => room.len(),
     }
-    n
 }
 
 // Whether an argument is this word of seven bytes at most.
-pub(crate) fn word_is(at: usize, expected: &[u8]) -> bool {
+pub(crate) fn word_is(rt: &impl Env, at: usize, expected: &[u8]) -> bool {
     let mut room = [0u8; 8];
-    let n = word(at, &mut room);
+    let n = word(rt, at, &mut room);
     check::same(first(&room, n), expected)
 }
 
 // Whether an argument asks how the program is used.
-fn is_help(at: usize) -> bool {
-    if word_is(at, b"-h") {
+fn is_help(rt: &impl Env, at: usize) -> bool {
+    if word_is(rt, at, b"-h") {
         return true;
     }
-    word_is(at, b"--help")
+    word_is(rt, at, b"--help")
 }
 
 // The agreement of the three arguments from this one on, and of so many further ones.
-pub(crate) fn agreement(at: usize, further: usize) -> Agreed
+pub(crate) fn agreement(rt: &(impl Env + Print), at: usize, further: usize) -> Agreed
     requires { at ≤ 65540 }
 {
     let mut algorithm = [0u8; 65];
-    let algorithm_length = word(at, &mut algorithm);
+    let algorithm_length = word(rt, at, &mut algorithm);
     let mut padding = [0u8; 65];
-    let padding_length = word(at + 1, &mut padding);
+    let padding_length = word(rt, at + 1, &mut padding);
     let mut m = [0u8; 65];
-    let m_length = word(at + 2, &mut m);
+    let m_length = word(rt, at + 2, &mut m);
     agreement_of(
+        rt,
         first(&algorithm, algorithm_length),
         first(&padding, padding_length),
         first(&m, m_length),
@@ -117,18 +134,25 @@ pub(crate) fn agreement(at: usize, further: usize) -> Agreed
 }
 
 // The agreement of three words, and of so many arguments from this one on: none, or the word master.
-fn agreement_of(algorithm: &[u8], padding: &[u8], m: &[u8], at: usize, further: usize) -> Agreed {
-    if is_no_number(b"the algorithm", algorithm) {
+fn agreement_of(
+    rt: &(impl Env + Print),
+    algorithm: &[u8],
+    padding: &[u8],
+    m: &[u8],
+    at: usize,
+    further: usize,
+) -> Agreed {
+    if is_no_number(rt, b"the algorithm", algorithm) {
         return Agreed::Unread;
     }
-    if is_no_number(b"the padding", padding) {
+    if is_no_number(rt, b"the padding", padding) {
         return Agreed::Unread;
     }
-    if is_no_number(b"M", m) {
+    if is_no_number(rt, b"M", m) {
         return Agreed::Unread;
     }
     let master = further != 0;
-    if master && is_no_master(at) {
+    if master && is_no_master(rt, at) {
         return Agreed::Unread;
     }
     Agreed::Words(settings::Agreement {
@@ -140,29 +164,30 @@ fn agreement_of(algorithm: &[u8], padding: &[u8], m: &[u8], at: usize, further: 
 }
 
 // Whether a word is no number; if so, it is said.
-pub(crate) fn is_no_number(what: &[u8], word: &[u8]) -> bool {
+pub(crate) fn is_no_number(rt: &impl Print, what: &[u8], word: &[u8]) -> bool {
     if numbers::no_number(word) {
-        print(b"error: ");
-        print(what);
-        print(b" is not written in 1 to 64 digits\n");
+        print(rt, b"error: ");
+        print(rt, what);
+        print(rt, b" is not written in 1 to 64 digits\n");
         return true;
     }
     false
 }
 
 // Whether an argument is not the word master; if so, it is said.
-fn is_no_master(at: usize) -> bool {
-    if word_is(at, b"master") {
+fn is_no_master(rt: &(impl Env + Print), at: usize) -> bool {
+    if word_is(rt, at, b"master") {
         return false;
     }
-    print(b"error: the word after M is not master\n");
+    print(rt, b"error: the word after M is not master\n");
     true
 }
 
 // What a program's usage says of the word master.
-pub(crate) fn print_master_usage() {
+pub(crate) fn print_master_usage(rt: &impl Print) {
     print(
+        rt,
         b"    the same where a master key was agreed: the keys are the master alone (algorithms 2\n",
     );
-    print(b"    and 6), or K and then the master (algorithm 4)\n");
+    print(rt, b"    and 6), or K and then the master (algorithm 4)\n");
 }

@@ -1,7 +1,10 @@
 // The one certificate in a file, read once, from its first byte to its last, in whatever lengths the system delivers: every read is a
 // piece of a session that checks its tag. Under padding 3 the session begins with the message's length, so the file is opened first and
 // the system asked for its size, which a pipe does not tell. A file whose size is another while it is read gets the session's 12.
-use crate::words;
+use crate::{path_of, words};
+use std::fs::{File, Files};
+use std::io;
+use std::io::{Read, Seek, SeekFrom};
 use words::print;
 
 // So many reads are enough: each but the last brings a byte, and the session refuses the first byte over its limit.
@@ -11,7 +14,7 @@ const MOST_READS: usize = 1048577;
 const TOO_MANY: usize = 2305843009213693952;
 
 // What a read found.
-#[derive(Drop)]
+#[derive(Clone, Copy)]
 enum After {
     // Bytes, and the session took them.
     More,
@@ -30,82 +33,103 @@ struct Turn {
     after: After,
 }
 
-pub(crate) fn check(name: &[u8], agreement: settings::Agreement, keys: &[u8], tag: &[u8]) {
+pub(crate) fn check(
+    rt: &(impl Files + Print),
+    name: &[u8],
+    agreement: settings::Agreement,
+    keys: &[u8],
+    tag: &[u8],
+) {
     if agreement.padding == 3 {
-        check_sized(name, agreement, keys, tag);
+        check_sized(rt, name, agreement, keys, tag);
         return;
     }
     let step = session::start_check(agreement, keys, 0, tag);
     let answer = step.answer;
-    if is_refused(answer) {
+    if is_refused(rt, answer) {
         return;
     }
-    let file = opened(name);
-    if file < 0 {
+    let Some(mut file) = opened(rt, name) else {
         return;
-    }
+    };
     let begun = step.session;
-    check_all(file, begun);
-    libc::close(file);
+    check_all(rt, &mut file, begun);
 }
 
-fn check_sized(name: &[u8], agreement: settings::Agreement, keys: &[u8], tag: &[u8]) {
-    let file = opened(name);
-    if file < 0 {
+fn check_sized(
+    rt: &(impl Files + Print),
+    name: &[u8],
+    agreement: settings::Agreement,
+    keys: &[u8],
+    tag: &[u8],
+) {
+    let Some(mut file) = opened(rt, name) else {
         return;
-    }
-    check_open(file, agreement, keys, tag);
-    libc::close(file);
+    };
+    check_open(rt, &mut file, agreement, keys, tag);
 }
 
 // The file, open for reading; where that cannot be, it is said.
-pub(crate) fn opened(name: &[u8]) -> i32 {
-    let file = os::open_read(name);
-    if file < 0 {
-        words::print_failure(b"the file cannot be opened", os::errno());
+pub(crate) fn opened<R: Files + Print>(rt: &R, name: &[u8]) -> Option<R::File> {
+    match open(rt, name) {
+        Ok(file) => Some(file),
+        Err(error) => {
+            words::print_failure(rt, b"the file cannot be opened", words::reason_of(&error));
+            None
+        }
     }
-    file
+}
+
+fn open<R: Files>(rt: &R, name: &[u8]) -> io::Result<R::File> {
+    File::open(rt, path_of(name)?)
 }
 
 // Whether an answer is a refusal; if so, it is said.
-fn is_refused(answer: settings::Outcome) -> bool {
+fn is_refused(rt: &impl Print, answer: settings::Outcome) -> bool {
     if let settings::Outcome::Refused(number) = answer {
-        words::print_refusal(number);
+        words::print_refusal(rt, number);
         return true;
     }
     false
 }
 
 // The size first. A directory may tell one too, so it is asked beforehand for no bytes, which it refuses.
-fn check_open(file: i32, agreement: settings::Agreement, keys: &[u8], tag: &[u8]) {
+fn check_open(
+    rt: &impl Print,
+    file: &mut (impl Read + Seek),
+    agreement: settings::Agreement,
+    keys: &[u8],
+    tag: &[u8],
+) {
     let mut room = [0u8; 1];
-    if libc::read(file, &mut room[0..0]) < 0 {
-        words::print_failure(b"the file cannot be read", os::errno());
+    if let Err(error) = file.read(&mut room[0..0]) {
+        words::print_failure(rt, b"the file cannot be read", words::reason_of(&error));
         return;
     }
     let size = size_told(file);
     if size < 0 {
         print(
+            rt,
             b"error: under padding 3 the file's size is needed first, and this file tells none (a pipe never does)\n",
         );
         return;
     }
     let step = session::start_check(agreement, keys, bits_in(bytes_in(size)), tag);
     let answer = step.answer;
-    if is_refused(answer) {
+    if is_refused(rt, answer) {
         return;
     }
     let begun = step.session;
-    check_all(file, begun);
+    check_all(rt, file, begun);
 }
 
 // Where a file's end is; a negative number where that is not told, or the way back to its beginning fails.
-fn size_told(file: i32) -> i64 {
-    let size = libc::lseek(file, 0, libc::SEEK_END);
-    if libc::lseek(file, 0, libc::SEEK_SET) != 0 {
-        return -1;
+fn size_told(file: &mut impl Seek) -> i64 {
+    let size = file.seek(SeekFrom::End(0));
+    match (size, file.seek(SeekFrom::Start(0))) {
+        (Ok(size), Ok(0)) => i64::try_from(size).unwrap_or(-1),
+        _ => -1,
     }
-    size
 }
 
 // A size as a number of bytes, 0 where it is negative.
@@ -125,32 +149,31 @@ fn bits_in(bytes: usize) -> usize {
 }
 
 // From the first read to the answer.
-fn check_all(file: i32, begun: session::Session) {
+fn check_all(rt: &impl Print, file: &mut impl Read, begun: session::Session) {
     let mut room = [0u8; 32768];
     let last = read_all(file, begun, &mut room);
     let s = last.session;
     let after = last.after;
     match after {
-        After::End => print_answer(s),
-        After::Refused(number) => words::print_refusal(number),
-        After::Unreadable(reason) => words::print_failure(b"the file cannot be read", reason),
+        After::End => print_answer(rt, s),
+        After::Refused(number) => words::print_refusal(rt, number),
+        After::Unreadable(reason) => words::print_failure(rt, b"the file cannot be read", reason),
         // It does not come to this: so many reads bring too many bytes.
-        After::More => words::print_refusal(8),
+        After::More => words::print_refusal(rt, 8),
     }
 }
 
 // Reads to the end of input, or to the first piece that is refused.
-fn read_all(file: i32, begun: session::Session, room: &mut [u8]) -> Turn {
+fn read_all(file: &mut impl Read, begun: session::Session, room: &mut [u8]) -> Turn {
     let mut s = begun;
     let mut after = After::More;
-    let mut turns = MOST_READS;
-    while 0 < turns && is_more(after) {
+    for _ in 0..MOST_READS {
         let turn = read_some(file, s, room);
-        let next = turn.session;
-        s = next;
-        let found = turn.after;
-        after = found;
-        turns -= 1;
+        s = turn.session;
+        after = turn.after;
+        if !is_more(after) {
+            break;
+        }
     }
     Turn { session: s, after }
 }
@@ -164,27 +187,23 @@ fn is_more(after: After) -> bool {
     }
 }
 
-fn read_some(file: i32, s: session::Session, room: &mut [u8]) -> Turn {
-    let got = libc::read(file, room);
-    if got < 0 {
-        return Turn {
+fn read_some(file: &mut impl Read, s: session::Session, room: &mut [u8]) -> Turn {
+    match file.read(room) {
+        Err(error) => Turn {
             session: s,
-            after: After::Unreadable(os::errno()),
-        };
-    }
-    if got == 0 {
-        return Turn {
+            after: After::Unreadable(words::reason_of(&error)),
+        },
+        Ok(0) => Turn {
             session: s,
             after: After::End,
-        };
-    }
-    let n = io::count(got, room);
-    let step = s.piece(&room[..n], bits_in(n));
-    let next = step.session;
-    let answer = step.answer;
-    Turn {
-        session: next,
-        after: after_piece(answer),
+        },
+        Ok(n) => {
+            let step = s.piece(&room[..n], bits_in(n));
+            Turn {
+                session: step.session,
+                after: after_piece(step.answer),
+            }
+        }
     }
 }
 
@@ -196,23 +215,23 @@ fn after_piece(answer: settings::Outcome) -> After {
 }
 
 // The check is finished once, all of the file being in it.
-fn print_answer(s: session::Session) {
+fn print_answer(rt: &impl Print, s: session::Session) {
     let bits = s.total;
     let step = s.finish_check();
     let answer = step.answer;
     match answer {
-        settings::Outcome::Yes(calls) => print_judged(b"accepted\n", bits, calls),
+        settings::Outcome::Yes(calls) => print_judged(rt, b"accepted\n", bits, calls),
         settings::Outcome::No(calls) => {
-            print_judged(b"rejected: the tag is not this file's\n", bits, calls)
+            print_judged(rt, b"rejected: the tag is not this file's\n", bits, calls)
         }
-        settings::Outcome::Refused(number) => words::print_refusal(number),
+        settings::Outcome::Refused(number) => words::print_refusal(rt, number),
         _ => (),
     }
 }
 
-fn print_judged(judged: &[u8], bits: usize, calls: usize) {
-    print(judged);
-    words::print_both(b"bits: ", bits);
-    words::print_both(b"\ncipher calls: ", calls);
-    print(b"\n");
+fn print_judged(rt: &impl Print, judged: &[u8], bits: usize, calls: usize) {
+    print(rt, judged);
+    words::print_both(rt, b"bits: ", bits);
+    words::print_both(rt, b"\ncipher calls: ", calls);
+    print(rt, b"\n");
 }

@@ -37,11 +37,9 @@ fn glyph(byte: u8) -> u8 {
 // The digits of a tag of eight bytes.
 pub(crate) fn digits(tag: [u8; 8]) -> [u8; 16] {
     let mut digits = [0u8; 16];
-    let mut i = 0;
-    while i < 8 {
+    for i in 0..8usize {
         digits[2 * i] = glyph(tag[i] / 16);
         digits[2 * i + 1] = glyph(tag[i]);
-        i += 1;
     }
     digits
 }

@@ -29,10 +29,8 @@ fn any_other(word: &[u8]) -> bool {
 // The number that decimal digits stand for.
 pub(crate) fn number(digits: &[u8]) -> usize {
     let mut n: usize = 0;
-    let mut i = 0;
-    while i < digits.len() {
-        n = with_digit(n, digits[i]);
-        i += 1;
+    for digit in digits {
+        n = with_digit(n, *digit);
     }
     n
 }

@@ -3,13 +3,15 @@
 // whole. A file that cannot be read is an error and never a refusal: nothing is known of its bottle.
 use crate::{certificate_file, words};
 use certificate_file::opened;
+use std::fs::Files;
+use std::io::Read;
 use words::print;
 
 // So many reads at most, that a device without an end is answered too. Each but the last brings a byte, so the 76 are there long before.
 const MOST_READS: usize = 65536;
 
 // What a read found.
-#[derive(Drop)]
+#[derive(Clone, Copy)]
 enum After {
     // Bytes.
     More,
@@ -26,33 +28,36 @@ struct Turn {
     after: After,
 }
 
-pub(crate) fn check(name: &[u8], agreement: settings::Agreement, keys: &[u8]) {
-    let file = opened(name);
-    if file < 0 {
+pub(crate) fn check(
+    rt: &(impl Files + Print),
+    name: &[u8],
+    agreement: settings::Agreement,
+    keys: &[u8],
+) {
+    let Some(mut file) = opened(rt, name) else {
         return;
-    }
-    let last = gather(file);
-    libc::close(file);
+    };
+    let last = gather(&mut file);
+    drop(file);
     let gathered = last.gathered;
     let after = last.after;
     match after {
-        After::Unreadable(reason) => words::print_failure(b"the file cannot be read", reason),
-        _ => print_answer(agreement, keys, gathered),
+        After::Unreadable(reason) => words::print_failure(rt, b"the file cannot be read", reason),
+        _ => print_answer(rt, agreement, keys, gathered),
     }
 }
 
 // Reads to the end of input.
-fn gather(file: i32) -> Turn {
+fn gather(file: &mut impl Read) -> Turn {
     let mut gathered = slip::Gathered::none();
     let mut after = After::More;
-    let mut turns = MOST_READS;
-    while 0 < turns && is_more(after) {
+    for _ in 0..MOST_READS {
         let turn = read_some(file, gathered);
-        let next = turn.gathered;
-        gathered = next;
-        let found = turn.after;
-        after = found;
-        turns -= 1;
+        gathered = turn.gathered;
+        after = turn.after;
+        if !is_more(after) {
+            break;
+        }
     }
     Turn { gathered, after }
 }
@@ -65,50 +70,51 @@ fn is_more(after: After) -> bool {
     }
 }
 
-fn read_some(file: i32, gathered: slip::Gathered) -> Turn {
+fn read_some(file: &mut impl Read, gathered: slip::Gathered) -> Turn {
     let mut chunk = [0u8; 256];
-    let got = libc::read(file, &mut chunk);
-    if got < 0 {
-        return Turn {
+    match file.read(&mut chunk) {
+        Err(error) => Turn {
             gathered,
-            after: After::Unreadable(os::errno()),
-        };
-    }
-    if got == 0 {
-        return Turn {
+            after: After::Unreadable(words::reason_of(&error)),
+        },
+        Ok(0) => Turn {
             gathered,
             after: After::End,
-        };
-    }
-    let n = io::count(got, &chunk);
-    let next = gathered.add(&chunk[..n]);
-    Turn {
-        gathered: next,
-        after: After::More,
+        },
+        Ok(n) => Turn {
+            gathered: gathered.add(&chunk[..n]),
+            after: After::More,
+        },
     }
 }
 
 // The slip is asked for once, all of it being there.
-fn print_answer(agreement: settings::Agreement, keys: &[u8], gathered: slip::Gathered) {
+fn print_answer(
+    rt: &impl Print,
+    agreement: settings::Agreement,
+    keys: &[u8],
+    gathered: slip::Gathered,
+) {
     let answer = gathered.read(agreement, keys);
     if answer.number != 0 {
-        words::print_refusal(answer.number);
+        words::print_refusal(rt, answer.number);
         return;
     }
     let contents = answer.contents;
     let bytes = gathered.bytes;
-    print_accepted(contents, slip::lot_in(&bytes, contents), answer.calls);
+    print_accepted(rt, contents, slip::lot_in(&bytes, contents), answer.calls);
 }
 
-fn print_accepted(contents: slip::Contents, lot: &[u8], calls: usize) {
-    print(b"accepted\n");
+fn print_accepted(rt: &impl Print, contents: slip::Contents, lot: &[u8], calls: usize) {
+    print(rt, b"accepted\n");
     words::print_contents(
+        rt,
         contents.year,
         contents.month,
         contents.day,
         lot,
         contents.amount,
     );
-    words::print_both(b"cipher calls: ", calls);
-    print(b"\n");
+    words::print_both(rt, b"cipher calls: ", calls);
+    print(rt, b"\n");
 }

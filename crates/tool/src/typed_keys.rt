@@ -2,10 +2,11 @@
 // them. Input of any length and any bytes is answered: it is read through a small buffer to its end, or to its first strange
 // character, which settles the answer.
 use crate::{hex, words};
+use std::io::Read;
 use words::print;
 
 // What has been typed so far.
-#[derive(Drop)]
+#[derive(Clone, Copy)]
 pub(crate) enum Typed {
     // So many bytes are in the room.
     Bytes(usize),
@@ -18,7 +19,7 @@ pub(crate) enum Typed {
 }
 
 // What has been typed after one more read, and whether another may change it.
-#[derive(Drop)]
+#[derive(Clone, Copy)]
 struct Turn {
     typed: Typed,
     more: bool,
@@ -26,38 +27,34 @@ struct Turn {
 
 // Puts the typed bytes into the room, as many as fit. A room of 33 bytes is enough: keys have 16 or 32 bytes, and for 33 the
 // library answers as it does for any longer keys, whether a slip is read or written or a certificate is checked.
-pub(crate) fn read(file: i32, room: &mut [u8]) -> Typed {
+pub(crate) fn read(file: &mut impl Read, room: &mut [u8]) -> Typed {
     let mut typed = Typed::Bytes(0);
-    let mut more = true;
     // A proved loop has to end; no input lasts for so many reads.
-    let mut turns = u64::MAX;
-    while 0 < turns && more {
+    for _ in 0..u64::MAX {
         let turn = read_some(file, typed, room);
-        let next = turn.typed;
-        typed = next;
-        more = turn.more;
-        turns -= 1;
+        typed = turn.typed;
+        if !turn.more {
+            break;
+        }
     }
     typed
 }
 
-fn read_some(file: i32, typed: Typed, room: &mut [u8]) -> Turn {
+fn read_some(file: &mut impl Read, typed: Typed, room: &mut [u8]) -> Turn {
     let mut chunk = [0u8; 256];
-    let got = libc::read(file, &mut chunk);
-    if got < 0 {
-        return Turn {
-            typed: Typed::Unread(os::errno()),
+    match file.read(&mut chunk) {
+        Err(error) => Turn {
+            typed: Typed::Unread(words::reason_of(&error)),
             more: false,
-        };
-    }
-    if got == 0 {
-        return Turn { typed, more: false };
-    }
-    let n = io::count(got, &chunk);
-    let next = after_all(&chunk[..n], typed, room);
-    Turn {
-        typed: next,
-        more: is_sound(next),
+        },
+        Ok(0) => Turn { typed, more: false },
+        Ok(n) => {
+            let next = after_all(&chunk[..n], typed, room);
+            Turn {
+                typed: next,
+                more: is_sound(next),
+            }
+        }
     }
 }
 
@@ -73,11 +70,8 @@ fn is_sound(typed: Typed) -> bool {
 // What has been typed after these characters, and the bytes of it in the room.
 pub(crate) fn after_all(text: &[u8], before: Typed, room: &mut [u8]) -> Typed {
     let mut typed = before;
-    let mut i = 0;
-    while i < text.len() {
-        let next = after(text[i], typed, room);
-        typed = next;
-        i += 1;
+    for c in text {
+        typed = after(*c, typed, room);
     }
     typed
 }
@@ -122,11 +116,14 @@ fn kept(room: &mut [u8], count: usize, byte: u8) -> usize {
 }
 
 // Says why what was typed is no keys.
-pub(crate) fn print_error(typed: Typed) {
+pub(crate) fn print_error(rt: &impl Print, typed: Typed) {
     match typed {
         Typed::Bytes(_) => (),
-        Typed::Half(_, _) => print(b"error: the keys have an odd number of hex digits\n"),
-        Typed::Strange => print(b"error: the keys hold a character that is no hex digit\n"),
-        Typed::Unread(reason) => words::print_failure(b"the keys cannot be read", reason),
+        Typed::Half(_, _) => print(rt, b"error: the keys have an odd number of hex digits\n"),
+        Typed::Strange => print(
+            rt,
+            b"error: the keys hold a character that is no hex digit\n",
+        ),
+        Typed::Unread(reason) => words::print_failure(rt, b"the keys cannot be read", reason),
     }
 }

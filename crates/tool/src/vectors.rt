@@ -66,27 +66,25 @@ const MASTER_OF_A7: [u8; 16] = *b"\x01\x23\x45\x67\x89\xab\xcd\xef\xfe\xdc\xba\x
 // Data 1; data 2 is its first 25 bytes.
 const TEXT: [u8; 32] = *b"This is the test message for mac";
 
-pub(crate) fn run() {
+pub(crate) fn run(rt: &impl Print) {
     let rows = ROWS;
-    words::print_number(run_rows(&rows));
-    words::print_both(b" of ", ROW_COUNT);
-    print(b" tags are right\n");
+    words::print_number(rt, run_rows(rt, &rows));
+    words::print_both(rt, b" of ", ROW_COUNT);
+    print(rt, b" tags are right\n");
 }
 
 // Runs each row, and gives the number of those that are right.
-fn run_rows(rows: &[u8]) -> usize {
+fn run_rows(rt: &impl Print, rows: &[u8]) -> usize {
     let mut right = 0;
-    let mut i = 0;
-    while i < ROW_COUNT {
-        if run_row(part(rows, ROW_LENGTH * i, ROW_LENGTH)) {
+    for i in 0..ROW_COUNT {
+        if run_row(rt, part(rows, ROW_LENGTH * i, ROW_LENGTH)) {
             right += 1;
         }
-        i += 1;
     }
     right
 }
 
-fn run_row(row: &[u8]) -> bool {
+fn run_row(rt: &impl Print, row: &[u8]) -> bool {
     let algorithm = value(row, 0);
     let agreed = settings::Agreement {
         algorithm,
@@ -96,7 +94,7 @@ fn run_row(row: &[u8]) -> bool {
     };
     let made = hex::digits(tag_of(agreed, value(row, 4)));
     let right = check::same(&made, part(row, 6, 16));
-    print_row(agreed, value(row, 4), &made, right);
+    print_row(rt, agreed, value(row, 4), &made, right);
     right
 }
 
@@ -164,18 +162,18 @@ fn size_of(data: usize) -> usize
     25
 }
 
-fn print_row(agreed: settings::Agreement, data: usize, made: &[u8], right: bool) {
-    words::print_both(b"algorithm ", agreed.algorithm);
-    words::print_both(b", padding ", agreed.padding);
-    words::print_both(b", data ", data);
-    words::print_both(b", ", agreed.m);
-    print(b" bits: ");
-    print(made);
+fn print_row(rt: &impl Print, agreed: settings::Agreement, data: usize, made: &[u8], right: bool) {
+    words::print_both(rt, b"algorithm ", agreed.algorithm);
+    words::print_both(rt, b", padding ", agreed.padding);
+    words::print_both(rt, b", data ", data);
+    words::print_both(rt, b", ", agreed.m);
+    print(rt, b" bits: ");
+    print(rt, made);
     if right {
-        print(b" ok\n");
+        print(rt, b" ok\n");
         return;
     }
-    print(b" wrong\n");
+    print(rt, b" wrong\n");
 }
 
 fn tag_bits(algorithm: usize) -> usize {
