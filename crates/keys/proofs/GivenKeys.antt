@@ -18,9 +18,8 @@ use Rattle.block.specs.Block.{front}
 use Rattle.block.proofs.Fronts.{front-full}
 use Rattle.cipher.specs.Ciphers.{cipher_at}
 use Rattle.cipher.proofs.Laws.{lawful-at, width-at}
-use Rattle.mac.specs.declared.Row.{Row}
-use Rattle.mac.specs.Algorithm.{algorithm_at, row, Keys, keys}
-use Rattle.mac.specs.Run.{Run, ◌giving◌}
+use Rattle.mac.specs.Algorithm.{algorithm_at, row, keys}
+use Rattle.mac.specs.Run.{◌giving◌}
 use Rattle.mac.specs.Derive.{derived, keys_used}
 use Rattle.mac.proofs.Derive.{used-calls, second-third-differ}
 use Rattle.keys.specs.Given.{unpack_of, given_of}

@@ -14,12 +14,9 @@ use Rattle.bits.specs.Str.{Bits, bits_n, bytes_bits}
 use Rattle.bits.proofs.Packed.{length-bytes_bits}
 use Rattle.bits.proofs.Numbers.{length-bits_n}
 use Rattle.block.specs.Block.{front, filled_block}
-use Rattle.cipher.specs.Cipher.{Cipher}
 use Rattle.cipher.specs.Ciphers.{cipher_at, round_keys_at, enc_at}
 use Rattle.cipher.proofs.Widths.{take-filled}
 use Rattle.cipher.proofs.Laws.{sm4-width, sm4-key, encrypt-at, first-enc}
-use Rattle.mac.specs.declared.Row.{Row}
-use Rattle.mac.specs.Run.{Run}
 use Rattle.mac.specs.Algorithm.{algorithm_at, row, keys}
 use Rattle.mac.specs.Derive.{derived, keys_used}
 use Rattle.keys.specs.Given.{unpack_of, key_bits, Unpacks}

@@ -3,7 +3,6 @@
 use Rattle.std.specs.Prelude.{Bool, ◌&&◌, ◌||◌, not, ℕ, eqb}
 use Rattle.bits.specs.Choice.{pick}
 use Rattle.bits.specs.Str.{same_b}
-use Rattle.mac.specs.declared.Row.{Row}
 use Rattle.mac.specs.Algorithm.{algorithm_at, row, Keys}
 
 -- 4: key bytes not 16 (one key) or 32 (K, then K'); under a master not 16 (the master) or, where K'' is used, 32 (K, then the

@@ -18,7 +18,6 @@ use Rattle.bits.proofs.Groups.{second-differs}
 use Rattle.cipher.specs.Cipher.{Cipher, Lawful}
 use Rattle.mac.specs.Run.{Call, Run, forward, ◌then◌, ◌giving◌}
 use Rattle.mac.specs.Padding.{Method, block_count}
-use Rattle.mac.specs.declared.Row.{Row}
 use Rattle.mac.specs.Algorithm.{Algorithm, row, Keys, keys}
 use Rattle.mac.specs.Tag.{mac, tag_of, calls_of}
 use Rattle.mac.specs.Derive.{derived, keys_used, mac_from}

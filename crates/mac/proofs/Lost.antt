@@ -27,7 +27,7 @@ use Rattle.mac.proofs.Perm.{Perm, perm-then, perm-xor, perm-rotl, perm-rotr, per
 use Rattle.mac.proofs.Padded.{last_block, count, ahead, length-prefix, padded-length}
 use Rattle.mac.proofs.Steps.{Sound, sound, step-perm, perm-e, perm-d, pick-perm, pick-long, zeros-long, double-long}
 use Rattle.mac.proofs.Chain.{length-D, D-here, past-here, all-long, H-long, H-before}
-use Rattle.mac.proofs.OneBlock.{Apart, Exactly, refilled, full, rest, full-value, one-filling}
+use Rattle.mac.proofs.OneBlock.{refilled, full, rest, full-value}
 
 -- ---- each way back undoes its step
 

@@ -4,7 +4,6 @@
 use mathlib.Core.Path.{◌≡◌, refl}
 use Prim.Native.Nat.{ℕ, zero, suc, ◌≤◌}
 use native.Mathlib.Omega.{arith}
-use Rattle.mac.specs.declared.Row.{Row}
 use Rattle.mac.specs.Algorithm.{Algorithm, alg1, alg2, alg3, alg4, alg5, alg6, alg7, alg8, algorithm_at, row}
 
 module _ (P : ℕ → Algorithm → Type 0) (p1 : (a : ℕ) → P a alg1) (p2 : P 2 alg2) (p3 : P 3 alg3) (p4 : P 4 alg4) (p5 : P 5 alg5) (p6 : P 6 alg6) (p7 : P 7 alg7) (p8 : P 8 alg8) where

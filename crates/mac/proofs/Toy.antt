@@ -13,7 +13,7 @@ use Rattle.cipher.specs.Cipher.{Cipher, Lawful}
 use Rattle.mac.specs.Padding.{Method}
 use Rattle.mac.specs.Algorithm.{Algorithm, Keys}
 use Rattle.mac.specs.Lost.{lost_block}
-use Rattle.mac.proofs.OneBlock.{Exactly, one-filling}
+use Rattle.mac.proofs.OneBlock.{one-filling}
 use Rattle.mac.proofs.LostFilling.{lost-filling}
 use Rattle.mac.proofs.Promised.{Promised, promised}
 

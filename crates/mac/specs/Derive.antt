@@ -8,7 +8,6 @@ use Rattle.bits.specs.Str.{Bits, bits_n}
 use Rattle.cipher.specs.Cipher.{Cipher}
 use Rattle.mac.specs.Run.{Run, just, ◌then◌, ◌giving◌, e}
 use Rattle.mac.specs.Padding.{Method}
-use Rattle.mac.specs.declared.Row.{Row}
 use Rattle.mac.specs.Algorithm.{Algorithm, row, Keys, keys}
 use Rattle.mac.specs.Tag.{mac}
 

@@ -3,9 +3,7 @@
 -- Assumes nothing.
 use Rattle.std.specs.Prelude.{Bool, not, List, [], ◌∷◌, ℕ, suc, ◌*◌, eqb, ltb}
 use Rattle.bits.specs.Choice.{Fault, ◌given◌}
-use Rattle.cipher.specs.Cipher.{Cipher}
 use Rattle.cipher.specs.Ciphers.{cipher_at}
-use Rattle.mac.specs.declared.Row.{Row}
 use Rattle.mac.specs.Padding.{method_at, block_count}
 use Rattle.mac.specs.Algorithm.{algorithm_at, row}
 use Rattle.mac.specs.Tag.{bytes_for}

@@ -17,12 +17,9 @@ use Rattle.bits.proofs.Choice.{miss, pick-ap}
 use Rattle.bits.proofs.Faults.{all, with, Numbered, every_append, first-append, first-append-clear}
 use Rattle.bits.proofs.Same.{Bytes, same_b-bytes}
 use Rattle.bits.proofs.Strings.{length-zeros}
-use Rattle.mac.specs.declared.Row.{Row}
-use Rattle.mac.specs.Run.{Run}
 use Rattle.mac.specs.Padding.{method_at, block_count}
 use Rattle.mac.specs.Algorithm.{algorithm_at, row, Keys}
 use Rattle.mac.specs.Tag.{bytes_for, tag_bytes}
-use Rattle.cipher.specs.Cipher.{Cipher}
 use Rattle.cipher.specs.Ciphers.{cipher_at}
 use Rattle.cipher.proofs.Laws.{sm4-width, width-at, lawful-at}
 use Rattle.mac.proofs.TagBytes.{take-fits, tag_bytes-block, tag_bytes-fit}

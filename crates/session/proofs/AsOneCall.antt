@@ -14,14 +14,12 @@ use lib.ListN.{length}
 use Rattle.bits.specs.Choice.{pick, ◌given◌, first_of}
 use Rattle.bits.specs.Str.{Bits}
 use Rattle.bits.proofs.Faults.{Clear, clear_first, clear-append, first_past, first-append-clear}
-use Rattle.mac.specs.declared.Row.{Row}
 use Rattle.mac.specs.Padding.{method_at, block_count}
 use Rattle.mac.specs.Algorithm.{algorithm_at, row}
 use Rattle.mac.specs.Tag.{bits_of, bytes_for}
 use Rattle.mac.proofs.Numbers.{least-two}
 use Rattle.mac.proofs.Padded.{needed, count-three}
 use Rattle.mac.proofs.TagBytes.{length-bits_of}
-use Rattle.cipher.specs.Cipher.{Cipher}
 use Rattle.cipher.specs.Ciphers.{cipher_at}
 use Rattle.cipher.proofs.Laws.{lawful-at}
 use Rattle.settings.specs.InUse.{agreement_faults}
@@ -37,7 +35,7 @@ use Rattle.session.specs.declared.Session.{Session}
 use Rattle.session.specs.declared.Step.{Step}
 use Rattle.session.specs.Record.{standing, is_check}
 use Rattle.session.specs.Calls.{start_faults, fresh_of, declared_at, start_of, falls_short, end_faults, finish_faults, finish_of}
-use Rattle.session.proofs.Open.{Open, opens, ended}
+use Rattle.session.proofs.Open.{opens, ended}
 use Rattle.session.proofs.Stood.{stood}
 use Rattle.session.proofs.OneStep.{finish-faults, finish-sound}
 use Rattle.session.proofs.Joined.{Act, Running, ending, Begun, to_make, record-after, message, finished, finish-runs, declared-met, finish-stood, after-stood, joined-bits}

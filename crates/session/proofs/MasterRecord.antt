@@ -15,9 +15,7 @@ use Rattle.bits.specs.Str.{Bits}
 use Rattle.bits.proofs.Choice.{pick-ap}
 use Rattle.block.specs.Block.{front}
 use Rattle.block.proofs.Fronts.{front-alone}
-use Rattle.cipher.specs.Cipher.{Cipher}
 use Rattle.cipher.specs.Ciphers.{cipher_at}
-use Rattle.mac.specs.declared.Row.{Row}
 use Rattle.mac.specs.Run.{Run}
 use Rattle.mac.specs.Padding.{method_at, suffix, complete}
 use Rattle.mac.specs.Algorithm.{algorithm_at, row, Keys, steps}

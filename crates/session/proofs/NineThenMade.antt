@@ -13,9 +13,7 @@ use Rattle.bits.specs.Choice.{pick}
 use Rattle.bits.specs.Str.{Bits, bytes_bits, zeros}
 use Rattle.bits.proofs.Faults.{Clear, first-clear, here, later, given-first}
 use Rattle.bits.proofs.Packed.{length-bytes_bits}
-use Rattle.cipher.specs.Cipher.{Cipher}
 use Rattle.cipher.specs.Ciphers.{cipher_at}
-use Rattle.mac.specs.declared.Row.{Row}
 use Rattle.mac.specs.Padding.{method_at, complete, gap, prefix, suffix, block_count}
 use Rattle.mac.specs.Algorithm.{algorithm_at}
 use Rattle.mac.specs.Tag.{bits_of, bytes_for}
@@ -33,7 +31,6 @@ use Rattle.tag.proofs.Numbers.{made-of, make-sound}
 use Rattle.tag.proofs.SameUse.{listed-count}
 use Rattle.session.specs.declared.Purpose.TheVariants.{Making}
 use Rattle.session.specs.declared.Session.{Session}
-use Rattle.session.specs.declared.Step.{Step}
 use Rattle.session.specs.Record.{standing, is_check}
 use Rattle.session.specs.Calls.{fresh_of, start_of, falls_short, end_faults, finish_faults, finish_of}
 use Rattle.session.proofs.Purposes.{aimed-closed}

@@ -14,16 +14,13 @@ use Rattle.block.specs.Block.{storage, filled_block}
 use Rattle.bits.proofs.Choice.{hit, miss}
 use Rattle.bits.proofs.Strings.{same_b-eq}
 use Rattle.bits.proofs.Faults.{Clear, passed, done, all, with, Numbered, first-clear}
-use Rattle.cipher.specs.Cipher.{Cipher}
 use Rattle.cipher.specs.Ciphers.{cipher_at}
 use Rattle.mac.specs.Tag.{bytes_for}
 use Rattle.keys.specs.Faults.{key_bytes}
 use Rattle.settings.specs.Faults.{settings_refusal}
 use Rattle.settings.specs.Answers.{settings_of}
-use Rattle.settings.specs.declared.Agreement.{Agreement}
 use Rattle.settings.proofs.Sound.{sound-size}
 use Rattle.message.specs.Faults.{length_wrong, too_many_bits, too_few_blocks, room_short}
-use Rattle.chain.specs.declared.Hold.{Hold}
 use Rattle.chain.specs.Chain.{held_bits}
 use Rattle.session.specs.declared.Phase.{Phase}
 use Rattle.session.specs.declared.Phase.TheVariants.{Closed, Edge, Part}

@@ -15,7 +15,6 @@ use Rattle.bits.specs.Str.{same_row}
 use Rattle.bits.proofs.Choice.{pick-ap, either_way}
 use Rattle.mac.specs.Tag.{bits_of, bytes_for, tag_bytes}
 use Rattle.settings.specs.Answers.{settings_of}
-use Rattle.settings.specs.declared.Agreement.{Agreement}
 use Rattle.settings.specs.declared.Outcome.{Outcome}
 use Rattle.settings.specs.declared.Outcome.TheVariants.{Accepted, Made, Yes, No, Refused}
 use Rattle.message.specs.Faults.{too_few_blocks, room_short}

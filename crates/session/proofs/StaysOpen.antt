@@ -16,9 +16,8 @@ use Rattle.bits.proofs.Faults.{Clear, passed, done, first-clear, clear_first, cl
 use Rattle.block.specs.Block.{front}
 use Rattle.mac.specs.Run.{Run}
 use Rattle.mac.specs.Algorithm.{Keys}
-use Rattle.mac.specs.Session.{State, absorb}
+use Rattle.mac.specs.Session.{absorb}
 use Rattle.mac.proofs.TagBytes.{length-bits_of}
-use Rattle.cipher.specs.Cipher.{Cipher}
 use Rattle.cipher.specs.Ciphers.{cipher_at}
 use Rattle.cipher.proofs.Laws.{lawful-at, width-at}
 use Rattle.keys.specs.Given.{given_of}
@@ -30,7 +29,6 @@ use Rattle.settings.specs.declared.Agreement.{Agreement}
 use Rattle.settings.proofs.Numbers.{Unrefused}
 use Rattle.settings.proofs.Sound.{needed-clear}
 use Rattle.message.specs.Faults.{too_many_bits}
-use Rattle.chain.specs.declared.Hold.{Hold}
 use Rattle.chain.specs.Chain.{hold_of}
 use Rattle.chain.proofs.Standing.{Reached, reached-at, reached-next, keeps}
 use Rattle.session.specs.declared.Purpose.{Purpose}
@@ -39,7 +37,7 @@ use Rattle.session.specs.declared.Session.{Session}
 use Rattle.session.specs.declared.Step.{Step}
 use Rattle.session.specs.Record.{keys_in, state_in, standing, aimed, phase_at, phase_unfit, settings_unsound, declared_too_long, passes_declared, closed_faults, counts_closed}
 use Rattle.session.specs.Calls.{start_faults, fresh_of, declared_at, start_of, start_check_of, steps_in, piece_faults, fed_of}
-use Rattle.session.proofs.Open.{open-clear, Taken, taken, piece-none}
+use Rattle.session.proofs.Open.{open-clear, taken, piece-none}
 use Rattle.session.proofs.Answers.{start-faults, start-numbered}
 use Rattle.session.proofs.Purposes.{aimed-closed}
 use Rattle.session.proofs.Stood.{stood, held-clean, stood-clean}

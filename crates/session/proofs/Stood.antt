@@ -14,7 +14,6 @@ use Rattle.bits.specs.Str.{Bits, bytes_bits, zeros, leftmost}
 use Rattle.bits.proofs.Strings.{same_b-true, length-zeros}
 use Rattle.block.specs.Block.{filled_block}
 use Rattle.mac.specs.Run.{Run}
-use Rattle.mac.specs.declared.Row.{Row}
 use Rattle.mac.specs.Padding.{Method, method_at, suffix, complete, block_count}
 use Rattle.mac.specs.Algorithm.{Algorithm, algorithm_at, row, Keys, Steps, steps}
 use Rattle.mac.specs.Tag.{tag_of, block_bytes}
@@ -31,7 +30,6 @@ use Rattle.keys.specs.Given.{given_of}
 use Rattle.settings.specs.InUse.{unpacked, in_use}
 use Rattle.keys.proofs.GivenKeys.{given-keys}
 use Rattle.settings.specs.declared.Agreement.{Agreement}
-use Rattle.chain.specs.declared.Hold.{Hold}
 use Rattle.chain.specs.Chain.{held_bits, hold_of}
 use Rattle.chain.proofs.Feeding.{held-le}
 use Rattle.chain.proofs.Standing.{quiet, absorb-quiet, Reached, stands, reached-fed, closes}

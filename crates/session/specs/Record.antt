@@ -4,7 +4,6 @@ use Rattle.std.specs.Prelude.{Bool, true, false, not, ◌&&◌, List, [], ◌∷
 use Rattle.bits.specs.Choice.{pick, Fault, ◌given◌, first_of}
 use Rattle.bits.specs.Str.{Bits, bytes_bits, leftmost, same_b}
 use Rattle.block.specs.Block.{filled_block}
-use Rattle.cipher.specs.Cipher.{Cipher}
 use Rattle.cipher.specs.Ciphers.{cipher_at}
 use Rattle.mac.specs.Run.{Run}
 use Rattle.mac.specs.Algorithm.{Keys}
@@ -14,7 +13,6 @@ use Rattle.settings.specs.InUse.{unpacked}
 use Rattle.settings.specs.Faults.{settings_refusal}
 use Rattle.settings.specs.declared.Agreement.{Agreement}
 use Rattle.message.specs.Faults.{too_many_bits}
-use Rattle.chain.specs.declared.Hold.{Hold}
 use Rattle.chain.specs.Chain.{held_bits, state_at, hold_of}
 use Rattle.session.specs.declared.Phase.{Phase}
 use Rattle.session.specs.declared.Phase.TheVariants.{Closed, Edge, Part}

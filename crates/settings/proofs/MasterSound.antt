@@ -14,7 +14,6 @@ use Rattle.bits.proofs.Strings.{same_b-false}
 use Rattle.block.specs.Block.{front}
 use Rattle.cipher.specs.Ciphers.{cipher_at}
 use Rattle.cipher.proofs.Laws.{lawful-at, width-at}
-use Rattle.mac.specs.declared.Row.{Row}
 use Rattle.mac.specs.Run.{Run}
 use Rattle.mac.specs.Algorithm.{algorithm_at, row, Keys, keys}
 use Rattle.mac.specs.Derive.{derived}

@@ -9,7 +9,6 @@ use Rattle.bits.specs.Choice.{Fault, ◌given◌, first_of}
 use Rattle.bits.specs.Str.{same_b}
 use Rattle.bits.proofs.Faults.{first_past, first-same}
 use Rattle.bits.proofs.Strings.{same_b-false}
-use Rattle.mac.specs.declared.Row.{Row}
 use Rattle.mac.specs.Algorithm.{algorithm_at, row, Keys}
 use Rattle.keys.proofs.GivenKeys.{never-same}
 use Rattle.settings.specs.InUse.{in_use}

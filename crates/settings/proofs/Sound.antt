@@ -12,7 +12,6 @@ use borrow.Author.Tests.{ltb-false, eqb-true, eqb-false, not-false}
 use Rattle.bits.specs.Choice.{pick}
 use Rattle.bits.proofs.Strings.{neither}
 use Rattle.bits.proofs.Faults.{Clear, passed, Every, all, with, Numbered, first-clear}
-use Rattle.mac.specs.declared.Row.{Row}
 use Rattle.mac.specs.Algorithm.{algorithm_at, row, Keys}
 use Rattle.mac.proofs.Numbers.{by_number}
 use Rattle.keys.specs.Faults.{key_bytes}

@@ -2,7 +2,6 @@
 -- Assumes nothing.
 use Rattle.std.specs.Prelude.{Bool, ◌||◌, not, List, [], ◌∷◌, ℕ, eqb, ltb}
 use Rattle.bits.specs.Choice.{pick, Fault, ◌given◌, first_of}
-use Rattle.mac.specs.declared.Row.{Row}
 use Rattle.mac.specs.Algorithm.{algorithm_at, row, Keys}
 use Rattle.keys.specs.Faults.{key_bytes_wrong, keys_same}
 use Rattle.settings.specs.declared.Agreement.{Agreement}

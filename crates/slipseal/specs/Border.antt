@@ -8,7 +8,6 @@ use Rattle.settings.specs.declared.Outcome.TheVariants.{Accepted, Made, Yes, No,
 use Rattle.settings.specs.declared.Agreement as settings-agreement
 use Rattle.tag.specs.declared.Restored.{Restored}
 use Rattle.tag.specs.Restore.{restored_number}
-use Rattle.chain.specs.declared.Hold.{Hold}
 use Rattle.session.specs.declared.Session as session
 use Rattle.session.specs.declared.Step as session-step
 use Rattle.session.specs.declared.Phase.{Phase}

@@ -12,7 +12,6 @@ use Rattle.sm4.specs.Cipher.{quad, flat, four, Sbox, τ, L, L', T, T', F, round,
 use Rattle.mac.specs.Padding.{Method, method1, method2, method3, method4, complete, gap, one_gap, prefix, suffix, pad, D}
 use Rattle.mac.specs.Algorithm.{Algorithm, alg1, alg2, alg3, alg4, alg5, alg6, alg7, alg8, Keys, keys, step, steps}
 use Rattle.mac.specs.Tag.{some, H, G, mac, tag_of}
-use Rattle.mac.specs.Run.{Run}
 use Rattle.mac.specs.Derive as Derive
 use Rattle.mac.specs.Derive.{keys_used}
 use Rattle.cipher.specs.Ciphers.{sm4}

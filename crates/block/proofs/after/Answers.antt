@@ -1,10 +1,9 @@
 -- `after` meets its contract: the invariant is a paste of the part's first i bytes from place q on (`paste_more`).
 -- Assumes nothing.
 use mathlib.Core.Path.{◌≡◌}
-use Prim.Native.Nat.{◌≤◌, ◌-◌}
 use native.Mathlib.Omega.{arith}
 use lib.ListN.{length}
-use lib.Seq.{paste, paste-zero}
+use lib.Seq.{paste-zero}
 use Rattle.block.proofs.Fronts.{paste_more, paste_all}
 use borrow.Author.Rules.{rules}
 use Rattle.block.proofs.after.Goals as goal

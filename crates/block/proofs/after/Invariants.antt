@@ -2,11 +2,8 @@
 -- Assumes nothing.
 use mathlib.Core.Path.{◌≡◌}
 use Prim.Native.Nat.{◌≤◌, ◌-◌}
-use native.Mathlib.Omega.{arith}
 use lib.ListN.{length}
-use lib.Seq.{paste, paste-zero}
-use Rattle.block.proofs.Fronts.{paste_more, paste_all}
-use borrow.Author.Rules.{rules}
+use lib.Seq.{paste}
 use Rattle.block.proofs.after.Given as goal
 
 abbrev pub invariant-loop-i : goal.invariant-loop-i

@@ -1,12 +1,9 @@
 -- `equal_bytes` meets its contract: the invariant is that the differences of the first i bytes are 0 exactly where these are the same
 -- (`equal-more`).
 -- Assumes nothing.
-use mathlib.Core.Path.{◌≡◌, refl}
+use mathlib.Core.Path.{refl}
 use mathlib.Core.List.{flat_map}
-use Prim.Native.Nat.{◌≤◌, ◌-◌}
 use native.Mathlib.Omega.{arith}
-use lib.Dec.{eqb}
-use lib.ListN.{length, take}
 use Rattle.bits.specs.Str.{bytes_bits, same_b}
 use Rattle.block.proofs.Equality.{equal-more, equal-all, unequal-length}
 use borrow.Author.Rules.{rules}

@@ -4,7 +4,6 @@ use mathlib.Core.Path.{sym}
 use native.Mathlib.Omega.{arith}
 use lib.Seq.{length-take-le}
 use Rattle.block.proofs.Fronts.{front-few, front-many}
-use borrow.Author.Rules.{rules}
 use Rattle.block.proofs.front.Goals as goal
 
 pub returns-then-s-lt16 : goal.returns-then-s-lt16

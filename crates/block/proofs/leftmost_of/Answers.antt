@@ -6,7 +6,6 @@ use lib.ListN.{take, length-take}
 use lib.Seq.{take_all, take-take}
 use Rattle.bits.specs.Str.{bytes_bits, leftmost}
 use Rattle.block.specs.Block.{filled_block}
-use borrow.Author.Rules.{rules}
 use Rattle.block.proofs.leftmost_of.Goals as goal
 
 pub returns-then-n-m : goal.returns-then-n-m

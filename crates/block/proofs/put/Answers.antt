@@ -1,6 +1,6 @@
 -- `put` meets its contract: the part of the block that is put has n bytes.
 -- Assumes nothing.
-use mathlib.Core.Path.{◌≡◌, sym, ap, ◌∙◌}
+use mathlib.Core.Path.{◌≡◌, ap, ◌∙◌}
 use mathlib.Core.List.{◌++◌}
 use native.Mathlib.Omega.{arith}
 use Prim.Native.Nat.{ℕ}

@@ -1,16 +1,10 @@
 -- `window` meets its contract: the invariant is that the first i bytes are the first 8i bits of the pair from the sth on (`byte_more`,
 -- `window-byte`).
 -- Assumes nothing.
-use mathlib.Core.Path.{◌≡◌, refl, ap, ◌∙◌}
-use mathlib.Core.List.{List, flat_map}
-use Prim.Native.Nat.{ℕ, ◌≤◌, ◌-◌, ◌*◌}
-use native.Mathlib.Omega.{arith}
+use mathlib.Core.Path.{◌≡◌}
+use Prim.Native.Nat.{◌≤◌, ◌-◌, ◌*◌}
 use lib.ListN.{length, take, drop}
 use Rattle.bits.specs.Str.{bytes_bits}
-use Rattle.bits.proofs.Packed.{length-bytes_bits}
-use Rattle.block.proofs.Stored.{byte_more, bytes-done, window-byte}
-use Rattle.block.proofs.Windows.{window-is, all-second}
-use borrow.Author.Rules.{rules}
 use Rattle.block.proofs.window.Given as goal
 
 abbrev pub invariant-loop-i : goal.invariant-loop-i

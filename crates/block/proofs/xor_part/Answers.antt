@@ -3,10 +3,9 @@
 -- Assumes nothing.
 use mathlib.Core.Path.{◌≡◌, refl}
 use mathlib.Core.List.{flat_map}
-use Prim.Native.Nat.{◌≤◌, ◌-◌, ◌*◌}
 use native.Mathlib.Omega.{arith}
-use lib.ListN.{length, take, drop}
-use Rattle.bits.specs.Str.{bytes_bits, xor_b}
+use lib.ListN.{length}
+use Rattle.bits.specs.Str.{bytes_bits}
 use Rattle.block.proofs.Windows.{blank}
 use Rattle.block.proofs.Stored.{byte_more, xor-byte, blank-more, xor-done}
 use borrow.Author.Rules.{rules}

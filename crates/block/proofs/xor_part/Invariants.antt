@@ -1,15 +1,11 @@
 -- `xor_part` meets its contract: the invariant is that the first i bytes are the first 8i bits of the xor, and the others zero
 -- (`byte_more`, `xor-byte`, `blank-more`).
 -- Assumes nothing.
-use mathlib.Core.Path.{◌≡◌, refl}
-use mathlib.Core.List.{flat_map}
+use mathlib.Core.Path.{◌≡◌}
 use Prim.Native.Nat.{◌≤◌, ◌-◌, ◌*◌}
-use native.Mathlib.Omega.{arith}
 use lib.ListN.{length, take, drop}
 use Rattle.bits.specs.Str.{bytes_bits, xor_b}
 use Rattle.block.proofs.Windows.{blank}
-use Rattle.block.proofs.Stored.{byte_more, xor-byte, blank-more, xor-done}
-use borrow.Author.Rules.{rules}
 use Rattle.block.proofs.xor_part.Given as goal
 
 abbrev pub invariant-loop-i : goal.invariant-loop-i

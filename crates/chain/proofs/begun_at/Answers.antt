@@ -5,7 +5,6 @@ use Prim.Native.Nat.{ℕ}
 use lib.Dec.{ltb}
 use borrow.Author.Tests.{eq-eqb, ne_eqb}
 use Rattle.chain.specs.Chain.{begun_at}
-use borrow.Author.Rules.{rules}
 use Rattle.chain.proofs.begun_at.Goals as goal
 
 pub returns-then-padding-eq3 : goal.returns-then-padding-eq3

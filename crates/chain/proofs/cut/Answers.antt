@@ -10,7 +10,6 @@ use Rattle.cipher.specs.Ciphers.{cipher_at}
 use Rattle.cipher.proofs.Laws.{width-at}
 use Rattle.mac.specs.Algorithm.{algorithm_at, steps}
 use Rattle.chain.proofs.Rows.{cut_at}
-use borrow.Author.Rules.{rules}
 use Rattle.chain.proofs.cut.Goals as goal
 
 pub returns-then-k-ne7 : goal.returns-then-k-ne7

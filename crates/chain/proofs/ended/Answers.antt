@@ -6,7 +6,6 @@ use Rattle.block.specs.Block.{filled_block}
 use Rattle.mac.specs.Session.{finish}
 use Rattle.chain.specs.Chain.{width_of, steps_of}
 use Rattle.chain.proofs.Firsts.{first-xor}
-use borrow.Author.Rules.{rules}
 use Rattle.chain.proofs.ended.Goals as goal
 
 pub returns : goal.returns

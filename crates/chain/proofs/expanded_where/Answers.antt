@@ -2,7 +2,6 @@
 -- Assumes nothing.
 use mathlib.Core.Path.{refl}
 use Rattle.bits.proofs.Choice.{hit, miss}
-use borrow.Author.Rules.{rules}
 use Rattle.chain.proofs.expanded_where.Goals as goal
 
 pub returns-then-on : goal.returns-then-on

@@ -8,7 +8,6 @@ use borrow.Author.Tests.{eq-eqb, ne_eqb}
 use Rattle.bits.proofs.Choice.{hit, miss}
 use Rattle.cipher.proofs.Laws.{width-at}
 use Rattle.chain.specs.Chain.{held_bits}
-use borrow.Author.Rules.{rules}
 use Rattle.chain.proofs.held_bits.Goals as goal
 
 pub returns-then-total-eq0 : goal.returns-then-total-eq0

@@ -10,7 +10,6 @@ use Rattle.mac.specs.Algorithm.{algorithm_at, steps}
 use Rattle.block.proofs.Windows.{blank}
 use Rattle.chain.proofs.Firsts.{first-xor, first-blank}
 use Rattle.chain.proofs.Rows.{last-at, k-is, k'-is, d'-is}
-use borrow.Author.Rules.{rules}
 use Rattle.chain.proofs.last.Goals as goal
 
 pub returns-then-algorithm-eq5 : goal.returns-then-algorithm-eq5

@@ -2,7 +2,6 @@
 -- Assumes nothing.
 use mathlib.Core.Path.{refl}
 use Rattle.bits.proofs.Choice.{hit, miss}
-use borrow.Author.Rules.{rules}
 use Rattle.chain.proofs.next_block.Goals as goal
 
 pub returns-then-backwards : goal.returns-then-backwards

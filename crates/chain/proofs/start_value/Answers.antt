@@ -8,7 +8,6 @@ use Rattle.mac.specs.Algorithm.{algorithm_at, steps}
 use Rattle.chain.specs.Chain.{width_of}
 use Rattle.chain.proofs.Firsts.{first-blank}
 use Rattle.chain.proofs.Rows.{start-at, k-is}
-use borrow.Author.Rules.{rules}
 use Rattle.chain.proofs.start_value.Goals as goal
 
 pub returns-then-k-eq8 : goal.returns-then-k-eq8

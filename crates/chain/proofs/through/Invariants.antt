@@ -1,21 +1,13 @@
 -- `through` meets its contract, both ways. The loop's invariant: the blocks that are left lead from here to where all blocks lead from
 -- the start (`walked-turn`). The measure is how many are left.
 -- Assumes nothing.
-use mathlib.Core.Path.{◌≡◌, sym, ap, ◌∙◌}
-use mathlib.Core.Bool.{Bool}
-use mathlib.Core.List.{List}
-use Prim.Native.Nat.{ℕ, ◌≤◌, ◌<◌, ◌+◌, ◌-◌, ◌*◌, ◌/◌}
-use native.Mathlib.Nat.{lt_of_le_of_lt}
-use native.Mathlib.Omega.{arith}
+use mathlib.Core.Path.{◌≡◌}
+use Prim.Native.Nat.{◌≤◌}
 use lib.ListN.{length, take}
-use mir.Val.{Fits}
-use mir.Syntax.{w64}
-use borrow.Author.Rules.{rules}
-use Rattle.bits.specs.Str.{Bits, bytes_bits, words, xor_b}
+use Rattle.bits.specs.Str.{bytes_bits, words}
 use Rattle.cipher.specs.Ciphers.{cipher_at, enc_at, words_bits}
-use Rattle.cipher.proofs.Laws.{width-at, first_load, first-absorb, first_store}
 use Rattle.chain.specs.Chain.{walked}
-use Rattle.chain.proofs.Walking.{next_of, part, part_in, part-long, ahead, walked-turn, all-ahead, none_ahead, nothing_walked}
+use Rattle.chain.proofs.Walking.{ahead}
 use Rattle.chain.proofs.through.Given as goal
 
 abbrev pub invariant-loop-left : goal.invariant-loop-left

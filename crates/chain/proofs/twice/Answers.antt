@@ -2,7 +2,6 @@
 -- Assumes nothing.
 use mathlib.Core.Path.{sym, ap, ◌∙◌}
 use Rattle.mac.specs.declared.Row.{Row}
-use borrow.Author.Rules.{rules}
 use Rattle.chain.proofs.twice.Goals as goal
 
 pub returns-then-row : goal.returns-then-row

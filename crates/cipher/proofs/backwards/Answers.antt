@@ -3,7 +3,6 @@
 use mathlib.Core.Path.{ap, ◌∙◌}
 use mathlib.Core.List.{[]}
 use mathlib.Mathlib.Data.List.Basic.{map-reverse_aux}
-use borrow.Author.Rules.{rules}
 use Rattle.bits.specs.Str.{bits_n, words}
 use Rattle.cipher.specs.Ciphers.{backwards_at}
 use Rattle.cipher.proofs.backwards.Goals as goal

@@ -1,7 +1,6 @@
 -- `table` meets its contract: SM4's.
 -- Assumes nothing.
 use Rattle.cipher.specs.Ciphers.{table_at}
-use borrow.Author.Rules.{rules}
 use Rattle.cipher.proofs.table.Goals as goal
 
 pub returns : goal.returns

@@ -1,7 +1,6 @@
 -- `wide` meets its contract: SM4's.
 -- Assumes nothing.
 use Rattle.cipher.specs.Ciphers.{wide_at}
-use borrow.Author.Rules.{rules}
 use Rattle.cipher.proofs.wide.Goals as goal
 
 pub returns : goal.returns

@@ -3,7 +3,6 @@
 use mathlib.Core.Path.{ap₂}
 use Prim.Native.Nat.{ℕ, ◌+◌, ◌*◌}
 use Rattle.fields.specs.Layout.{amount_of}
-use borrow.Author.Rules.{rules}
 use Rattle.fields.proofs.amount.Goals as goal
 
 pub returns : goal.returns

@@ -6,7 +6,6 @@ use Rattle.bits.proofs.Choice.{hit, miss}
 use Rattle.fields.specs.Format.{amount_row}
 use Rattle.fields.specs.Layout.{amount_of, amount_wrong, amount_faults}
 use Rattle.fields.proofs.Formed.{head_first, own_first}
-use borrow.Author.Rules.{rules}
 use Rattle.fields.proofs.amount_refusal.Lts
 use Rattle.fields.proofs.amount_refusal.Reads
 use Rattle.fields.proofs.amount_refusal.Tie

@@ -2,7 +2,6 @@
 -- Assumes nothing.
 use mathlib.Core.Path.{◌≡◌}
 use Rattle.fields.specs.Field.{outside}
-use borrow.Author.Rules.{rules}
 use Rattle.fields.proofs.amount_wrong.Goals as goal
 
 pub returns : goal.returns

@@ -3,11 +3,10 @@
 use mathlib.Core.Path.{◌≡◌, refl, sym, ap, ◌∙◌}
 use mathlib.Core.Bool.{Bool, true, false, ◌||◌}
 use native.Mathlib.Omega.{arith}
-use Prim.Native.Nat.{◌+◌, ◌-◌, ◌≤◌}
-use lib.ListN.{length, drop, get_or, drop_of_length-le}
+use Prim.Native.Nat.{◌+◌}
+use lib.ListN.{drop, get_or, drop_of_length-le}
 use Rattle.fields.specs.Field.{outside, any_outside}
 use Rattle.fields.proofs.Formed.{any_outside-at}
-use borrow.Author.Rules.{rules}
 use Rattle.fields.proofs.any_outside.Goals as goal
 
 pub loop-i-init : goal.loop-i-init

@@ -1,13 +1,9 @@
 -- `any_outside` meets its contract: the invariant says that what is left decides the answer (`any_outside-at` at each byte).
 -- Assumes nothing.
-use mathlib.Core.Path.{◌≡◌, refl, sym, ap, ◌∙◌}
-use mathlib.Core.Bool.{Bool, true, false, ◌||◌}
-use native.Mathlib.Omega.{arith}
-use Prim.Native.Nat.{◌+◌, ◌-◌, ◌≤◌}
-use lib.ListN.{length, drop, get_or, drop_of_length-le}
-use Rattle.fields.specs.Field.{outside, any_outside}
-use Rattle.fields.proofs.Formed.{any_outside-at}
-use borrow.Author.Rules.{rules}
+use mathlib.Core.Path.{◌≡◌}
+use Prim.Native.Nat.{◌-◌, ◌≤◌}
+use lib.ListN.{length, drop}
+use Rattle.fields.specs.Field.{any_outside}
 use Rattle.fields.proofs.any_outside.Given as goal
 
 abbrev pub invariant-loop-i : goal.invariant-loop-i

@@ -5,7 +5,6 @@ use Prim.Native.Nat.{ℕ}
 use Rattle.fields.specs.Field.{outside}
 use Rattle.fields.specs.Date.{date_wrong}
 use Rattle.fields.proofs.Formed.{within}
-use borrow.Author.Rules.{rules}
 use Rattle.fields.proofs.date_wrong.Lts
 use Rattle.fields.proofs.date_wrong.Reads
 use Rattle.fields.proofs.date_wrong.Tie

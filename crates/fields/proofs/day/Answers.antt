@@ -1,7 +1,6 @@
 -- `day` meets its contract: what `two_digits` ensures.
 -- Assumes nothing.
 use Rattle.fields.specs.Date.{day_of}
-use borrow.Author.Rules.{rules}
 use Rattle.fields.proofs.day.Goals as goal
 
 pub returns : goal.returns

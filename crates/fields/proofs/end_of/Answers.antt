@@ -6,7 +6,6 @@ use Prim.Native.Nat.{ℕ, ◌+◌}
 use borrow.Author.Tests.{lt-ltb, le-ltb}
 use Rattle.bits.proofs.Choice.{hit, miss}
 use Rattle.fields.specs.Field.{length_of, end_of}
-use borrow.Author.Rules.{rules}
 use Rattle.fields.proofs.end_of.Goals as goal
 
 pub returns-then-field-end : goal.returns-then-field-end

@@ -6,7 +6,6 @@ use Rattle.fields.specs.Format.{expiry_row}
 use Rattle.fields.specs.Date.{year_of, month_of, day_of, date_wrong}
 use Rattle.fields.specs.Layout.{expiry_faults}
 use Rattle.fields.proofs.Formed.{head_first, own_first}
-use borrow.Author.Rules.{rules}
 use Rattle.fields.proofs.expiry_refusal.Lts
 use Rattle.fields.proofs.expiry_refusal.Reads
 use Rattle.fields.proofs.expiry_refusal.Tie

@@ -4,7 +4,6 @@ use mathlib.Core.Path.{ap, ◌∙◌}
 use Rattle.fields.specs.Field.{end_of}
 use Rattle.bits.proofs.Lists.{take_rest}
 use Rattle.fields.proofs.Inside.{placed}
-use borrow.Author.Rules.{rules}
 use Rattle.fields.proofs.field_places.Goals as goal
 
 pub returns : goal.returns

@@ -10,7 +10,6 @@ use borrow.Author.Tests.{lt-ltb, le-ltb, eq-eqb, ne_eqb}
 use Rattle.bits.specs.Choice.{first_of}
 use Rattle.bits.proofs.Choice.{hit, miss}
 use Rattle.fields.specs.Field.{outside, any_outside, length_of, value, field_faults}
-use borrow.Author.Rules.{rules}
 use Rattle.fields.proofs.field_refusal.Lts
 use Rattle.fields.proofs.field_refusal.Reads
 use Rattle.fields.proofs.field_refusal.Tie

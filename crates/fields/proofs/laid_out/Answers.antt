@@ -1,7 +1,6 @@
 -- `laid_out` meets its contract: what the two functions ensure.
 -- Assumes nothing.
 use Rattle.fields.specs.Layout.{layout_of}
-use borrow.Author.Rules.{rules}
 use Rattle.fields.proofs.laid_out.Goals as goal
 
 pub layout_refusal-refusal-requires : goal.layout_refusal-refusal-requires

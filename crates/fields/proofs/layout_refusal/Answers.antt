@@ -10,7 +10,6 @@ use Rattle.fields.specs.declared.Places.{Places}
 use Rattle.fields.proofs.Formed.{head_first, rest-first}
 use Rattle.fields.proofs.Inside.{lot-there, amount-there, seal-there, part-from}
 use Rattle.fields.proofs.Laid.{expiry-numbered, lot-numbered, amount-numbered}
-use borrow.Author.Rules.{rules}
 use Rattle.fields.proofs.layout_refusal.Lts
 use Rattle.fields.proofs.layout_refusal.Reads
 use Rattle.fields.proofs.layout_refusal.Tie

@@ -1,7 +1,6 @@
 -- `lot_length` meets its contract: what `two_bytes` ensures.
 -- Assumes nothing.
 use Rattle.fields.specs.Field.{length_of}
-use borrow.Author.Rules.{rules}
 use Rattle.fields.proofs.lot_length.Goals as goal
 
 pub returns : goal.returns

@@ -1,7 +1,6 @@
 -- `month` meets its contract: what `two_digits` ensures.
 -- Assumes nothing.
 use Rattle.fields.specs.Date.{month_of}
-use borrow.Author.Rules.{rules}
 use Rattle.fields.proofs.month.Goals as goal
 
 pub returns : goal.returns

@@ -6,7 +6,6 @@ use Rattle.bits.proofs.Choice.{hit, miss}
 use Rattle.fields.specs.Format.{seal_row}
 use Rattle.fields.specs.Layout.{seal_faults}
 use Rattle.fields.proofs.Formed.{head_first, own_first}
-use borrow.Author.Rules.{rules}
 use Rattle.fields.proofs.seal_refusal.Goals as goal
 
 pub returns-then-no-ne0 : goal.returns-then-no-ne0

@@ -4,7 +4,6 @@ use mathlib.Core.Path.{ap₂}
 use native.Mathlib.Omega.{arith}
 use Prim.Native.Nat.{ℕ, ◌+◌, ◌*◌}
 use Rattle.fields.specs.Date.{two_digits}
-use borrow.Author.Rules.{rules}
 use Rattle.fields.proofs.two_digits.Goals as goal
 
 pub returns : goal.returns

@@ -3,7 +3,6 @@
 use mathlib.Core.Path.{ap₂}
 use Prim.Native.Nat.{ℕ, ◌+◌, ◌*◌}
 use Rattle.fields.specs.Date.{year_of}
-use borrow.Author.Rules.{rules}
 use Rattle.fields.proofs.year.Goals as goal
 
 pub returns : goal.returns

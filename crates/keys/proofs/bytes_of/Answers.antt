@@ -3,7 +3,6 @@
 use mathlib.Core.Path.{refl, sym, ◌∙◌}
 use Rattle.bits.proofs.Choice.{hit, miss}
 use Rattle.keys.specs.Faults.{key_bytes}
-use borrow.Author.Rules.{rules}
 use Rattle.keys.proofs.bytes_of.Goals as goal
 
 pub returns-then-two_given : goal.returns-then-two_given

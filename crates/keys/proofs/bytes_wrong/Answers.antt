@@ -5,7 +5,6 @@ use mathlib.Core.Bool.{Bool, ◌||◌, not}
 use Prim.Native.Nat.{ℕ}
 use lib.Dec.{eqb}
 use Rattle.keys.specs.Faults.{key_bytes, key_bytes_wrong}
-use borrow.Author.Rules.{rules}
 use Rattle.keys.proofs.bytes_wrong.Goals as goal
 
 pub returns-then-master_wrong : goal.returns-then-master_wrong

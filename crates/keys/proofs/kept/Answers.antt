@@ -4,7 +4,6 @@ use mathlib.Core.Path.{ap₂, ◌∙◌}
 use mathlib.Core.List.{List, ◌++◌}
 use Prim.Native.Nat.{ℕ}
 use Rattle.keys.specs.Given.{given_of}
-use borrow.Author.Rules.{rules}
 use Rattle.keys.proofs.kept.Goals as goal
 
 pub returns : goal.returns

@@ -5,7 +5,6 @@ use mathlib.Core.Bool.{Bool, ◌&&◌, not}
 use Rattle.mac.specs.declared.Row.{Row}
 use Rattle.mac.specs.Algorithm.{algorithm_at, row}
 use Rattle.keys.specs.Faults.{master_wrong}
-use borrow.Author.Rules.{rules}
 use Rattle.keys.proofs.master_wrong.Goals as goal
 
 pub returns-then-master : goal.returns-then-master

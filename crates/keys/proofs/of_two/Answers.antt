@@ -2,7 +2,6 @@
 -- Assumes nothing.
 use mathlib.Core.Path.{refl}
 use Rattle.keys.specs.Given.{key_bits}
-use borrow.Author.Rules.{rules}
 use Rattle.keys.proofs.of_two.Goals as goal
 
 pub returns : goal.returns

@@ -6,7 +6,6 @@ use Rattle.bits.specs.Str.{bytes_bits, same_b}
 use Rattle.mac.specs.declared.Row.{Row}
 use Rattle.keys.specs.Given.{key_bits}
 use Rattle.keys.specs.Faults.{keys_same}
-use borrow.Author.Rules.{rules}
 use Rattle.keys.proofs.same.Goals as goal
 
 pub returns-then-same_where : goal.returns-then-same_where

@@ -3,7 +3,6 @@
 use mathlib.Core.Path.{sym, ap, ◌∙◌}
 use mathlib.Core.Bool.{Bool, ◌&&◌}
 use Rattle.bits.specs.Str.{bytes_bits, same_b}
-use borrow.Author.Rules.{rules}
 use Rattle.keys.proofs.same_where.Goals as goal
 
 pub returns-then-on : goal.returns-then-on

@@ -5,7 +5,6 @@ use mathlib.Core.Path.{sym, ap, ◌∙◌}
 use native.Mathlib.Omega.{arith}
 use Rattle.bits.proofs.Lists.{take_rest}
 use Rattle.block.specs.Block.{front}
-use borrow.Author.Rules.{rules}
 use Rattle.keys.proofs.second_given.Goals as goal
 
 pub returns-then-given-lt16 : goal.returns-then-given-lt16

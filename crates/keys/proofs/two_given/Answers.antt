@@ -3,7 +3,6 @@
 use mathlib.Core.Path.{ap}
 use Rattle.bits.proofs.Choice.{hit, miss}
 use Rattle.mac.specs.declared.Row.{Row}
-use borrow.Author.Rules.{rules}
 use Rattle.keys.proofs.two_given.Goals as goal
 
 pub returns-then-master : goal.returns-then-master

@@ -6,7 +6,6 @@ use Rattle.mac.specs.declared.Row.{Row}
 use Rattle.mac.specs.Algorithm.{keys}
 use Rattle.keys.specs.Given.{key_bits}
 use Rattle.keys.proofs.MasterKeys.{as-given, second-master, first-master}
-use borrow.Author.Rules.{rules}
 use Rattle.keys.proofs.unpack.Goals as goal
 
 pub returns-then-not-master : goal.returns-then-not-master

@@ -5,12 +5,9 @@ use mathlib.Core.Path.{sym, ap, ◌∙◌}
 use Prim.Native.Nat.{ℕ, suc, ◌-◌, ◌/◌, ◌≤◌}
 use native.Mathlib.Omega.{arith}
 use native.Mathlib.Numerals.{add-one}
-use Rattle.cipher.specs.Cipher.{Cipher, Lawful}
 use Rattle.cipher.specs.Ciphers.{cipher_at}
-use Rattle.cipher.proofs.Widths.{Width}
 use Rattle.cipher.proofs.Laws.{width-at, lawful-at}
 use Rattle.mac.proofs.Padded.{needed, count-two, count-three, count-other, eighth}
-use borrow.Author.Rules.{rules}
 use Rattle.mac.proofs.block_count.Goals as goal
 
 a_byte : (c : ℕ) → 8 ≤ (cipher_at c).n

@@ -6,12 +6,9 @@ use Prim.Native.Nat.{ℕ, suc, ◌-◌, ◌/◌}
 use native.Mathlib.Nat.{zero-div}
 use native.Mathlib.Omega.{arith}
 use native.Mathlib.Numerals.{add-one}
-use Rattle.cipher.specs.Cipher.{Cipher}
 use Rattle.cipher.specs.Ciphers.{cipher_at}
-use Rattle.cipher.proofs.Widths.{Width}
 use Rattle.cipher.proofs.Laws.{width-at}
 use Rattle.mac.proofs.Padded.{eighth}
-use borrow.Author.Rules.{rules}
 use Rattle.mac.proofs.needed.Goals as goal
 
 pub returns-then-bits-eq0 : goal.returns-then-bits-eq0

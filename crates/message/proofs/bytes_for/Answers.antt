@@ -2,7 +2,6 @@
 -- Assumes nothing.
 use native.Mathlib.Omega.{arith}
 use Rattle.mac.specs.Tag.{bytes_for}
-use borrow.Author.Rules.{rules}
 use Rattle.message.proofs.bytes_for.Goals as goal
 
 pub returns-then-bits-eq0 : goal.returns-then-bits-eq0

@@ -6,7 +6,6 @@ use native.Mathlib.Nat.{suc-mul, le-div_iff_mul-le, mul-le-mul_right, lt-div-mul
 use native.Mathlib.Decide.{dec_lt}
 use native.Mathlib.Omega.{arith}
 use lib.Dec.{ltb, leb}
-use borrow.Author.Rules.{rules}
 use borrow.Author.Tests.{lt-ltb, le-ltb, lt-leb, le-leb}
 use Rattle.cipher.specs.Ciphers.{cipher_at}
 use Rattle.cipher.proofs.Laws.{width-at}

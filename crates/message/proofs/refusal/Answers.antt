@@ -4,7 +4,6 @@ use mathlib.Core.Path.{◌∙◌}
 use mathlib.Core.List.{[], ◌∷◌}
 use Rattle.bits.specs.Choice.{◌given◌, first_of, faults}
 use Rattle.message.specs.Faults.{message_faults}
-use borrow.Author.Rules.{rules}
 use Rattle.message.proofs.refusal.Goals as goal
 
 pub returns : goal.returns

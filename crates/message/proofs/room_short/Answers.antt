@@ -4,7 +4,6 @@ use mathlib.Core.Path.{ap}
 use Prim.Native.Nat.{ℕ}
 use lib.Dec.{ltb}
 use Rattle.message.specs.Faults.{room_short}
-use borrow.Author.Rules.{rules}
 use Rattle.message.proofs.room_short.Goals as goal
 
 pub returns : goal.returns

@@ -5,7 +5,6 @@ use mathlib.Core.Bool.{not}
 use Prim.Native.Nat.{ℕ}
 use lib.Dec.{eqb}
 use Rattle.message.specs.Faults.{tag_length_wrong}
-use borrow.Author.Rules.{rules}
 use Rattle.message.proofs.tag_length_wrong.Goals as goal
 
 pub returns : goal.returns

@@ -5,7 +5,6 @@ use Prim.Native.Nat.{ℕ}
 use lib.Dec.{ltb}
 use Rattle.mac.specs.declared.Row.{Row}
 use Rattle.message.specs.Faults.{too_few_blocks}
-use borrow.Author.Rules.{rules}
 use Rattle.message.proofs.too_few_blocks.Goals as goal
 
 pub returns : goal.returns

@@ -3,14 +3,11 @@
 -- Assumes nothing.
 use mathlib.Core.Path.{◌≡◌, ap, ◌∙◌}
 use Prim.Native.Nat.{◌+◌}
-use Rattle.cipher.specs.Cipher.{Cipher}
 use Rattle.cipher.specs.Ciphers.{cipher_at}
-use Rattle.mac.specs.declared.Row.{Row}
 use Rattle.mac.specs.Padding.{method_at, block_count}
 use Rattle.mac.specs.Algorithm.{algorithm_at, row}
 use Rattle.settings.specs.declared.Settings.{Settings}
 use Rattle.session.proofs.Answers.{calls-listed}
-use borrow.Author.Rules.{rules}
 use Rattle.session.proofs.calls_in.Goals as goal
 
 pub returns : goal.returns

@@ -9,7 +9,6 @@ use lib.Dec.{eqb}
 use Rattle.bits.specs.Choice.{◌given◌, first_of, faults}
 use Rattle.bits.specs.Str.{bytes_bits}
 use Rattle.session.specs.Record.{settings_unsound, passes_declared, stray_bit, closed_faults, counts_closed}
-use borrow.Author.Rules.{rules}
 use Rattle.session.proofs.counts_closed.Goals as goal
 
 pub returns : goal.returns

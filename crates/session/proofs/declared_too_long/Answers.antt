@@ -2,7 +2,6 @@
 -- Assumes nothing.
 use borrow.Author.Tests.{eq-eqb, ne_eqb}
 use Rattle.session.specs.Record.{declared_too_long}
-use borrow.Author.Rules.{rules}
 use Rattle.session.proofs.declared_too_long.Goals as goal
 
 pub returns-then-padding-eq3 : goal.returns-then-padding-eq3

@@ -4,7 +4,6 @@ use mathlib.Core.Path.{◌≡◌, sym, ap, ◌∙◌}
 use Prim.Native.Nat.{ℕ, ◌+◌}
 use lib.ListN.{take}
 use Rattle.bits.specs.Str.{bytes_bits}
-use Rattle.cipher.specs.Cipher.{Cipher}
 use Rattle.cipher.specs.Ciphers.{cipher_at}
 use Rattle.settings.specs.declared.Settings.{Settings}
 use Rattle.mac.specs.Tag.{bits_of}
@@ -13,7 +12,6 @@ use Rattle.mac.proofs.TagBytes.{length-bits_of}
 use Rattle.chain.specs.Chain.{rounds_bits, rounds_of, steps_at, state_at, hold_of}
 use Rattle.session.specs.Record.{keys_in, state_in, standing}
 use Rattle.session.specs.Calls.{steps_in, fed_of}
-use borrow.Author.Rules.{rules}
 use Rattle.session.proofs.fed.Lts
 use Rattle.session.proofs.fed.Reads
 use Rattle.session.proofs.fed.Tie

@@ -6,7 +6,6 @@ use Rattle.bits.specs.Choice.{◌given◌, first_of, faults}
 use Rattle.settings.specs.declared.Settings.{Settings}
 use Rattle.message.specs.Faults.{too_few_blocks}
 use Rattle.session.specs.Calls.{end_faults}
-use borrow.Author.Rules.{rules}
 use Rattle.session.proofs.finish_refusal.Goals as goal
 
 pub returns : goal.returns

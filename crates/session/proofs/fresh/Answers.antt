@@ -8,7 +8,6 @@ use Rattle.mac.specs.Session.{opened}
 use Rattle.keys.specs.Given.{key_bits}
 use Rattle.chain.specs.Chain.{hold_of}
 use Rattle.session.specs.Calls.{fresh_of}
-use borrow.Author.Rules.{rules}
 use Rattle.session.proofs.fresh.Goals as goal
 
 pub returns : goal.returns

@@ -2,7 +2,6 @@
 -- Assumes nothing.
 use mathlib.Core.Path.{refl}
 use Rattle.session.specs.Record.{is_check}
-use borrow.Author.Rules.{rules}
 use Rattle.session.proofs.is_check.Goals as goal
 
 pub returns-in-Making : goal.returns-in-Making

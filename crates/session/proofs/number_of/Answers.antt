@@ -2,7 +2,6 @@
 -- Assumes nothing.
 use mathlib.Core.Path.{refl}
 use Rattle.settings.specs.Answers.{number_of}
-use borrow.Author.Rules.{rules}
 use Rattle.session.proofs.number_of.Goals as goal
 
 pub returns-in-Accepted : goal.returns-in-Accepted

@@ -4,7 +4,6 @@ use mathlib.Core.Path.{◌∙◌}
 use mathlib.Core.List.{[], ◌∷◌}
 use Rattle.bits.specs.Choice.{◌given◌, first_of, faults}
 use Rattle.session.specs.Calls.{piece_faults}
-use borrow.Author.Rules.{rules}
 use Rattle.session.proofs.piece_refusal.Goals as goal
 
 pub returns : goal.returns

@@ -4,7 +4,6 @@ use mathlib.Core.Path.{ap}
 use Rattle.settings.specs.declared.Outcome.TheVariants.{Refused}
 use Rattle.session.specs.declared.Session.{Session}
 use Rattle.session.specs.Calls.{refused_start}
-use borrow.Author.Rules.{rules}
 use Rattle.session.proofs.refused_start.Goals as goal
 
 pub returns : goal.returns

@@ -7,7 +7,6 @@ use lib.Dec.{eqb}
 use Rattle.keys.specs.Given.{key_bits}
 use Rattle.settings.specs.Faults.{settings_refusal}
 use Rattle.session.specs.Record.{settings_unsound}
-use borrow.Author.Rules.{rules}
 use Rattle.session.proofs.settings_unsound.Goals as goal
 
 pub returns : goal.returns

@@ -3,7 +3,6 @@
 use mathlib.Core.Path.{◌∙◌}
 use Rattle.keys.specs.Given.{key_bits}
 use Rattle.session.proofs.Answers.{start-refused, start-sound}
-use borrow.Author.Rules.{rules}
 use Rattle.session.proofs.start.Goals as goal
 
 pub returns-in-Unsound : goal.returns-in-Unsound

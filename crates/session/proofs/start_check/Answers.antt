@@ -3,7 +3,6 @@
 -- Assumes nothing.
 use mathlib.Core.Path.{◌∙◌}
 use Rattle.session.proofs.Answers.{check-refused, check-ten, check-fresh}
-use borrow.Author.Rules.{rules}
 use Rattle.session.proofs.start_check.Goals as goal
 
 pub returns-then-number-ne0 : goal.returns-then-number-ne0

@@ -7,7 +7,6 @@ use Rattle.settings.specs.declared.Outcome.TheVariants.{Accepted}
 use Rattle.session.specs.declared.Session.{Session}
 use Rattle.session.specs.Calls.{fresh_of, started_by, start_under}
 use Rattle.session.proofs.Open.{declared-few}
-use borrow.Author.Rules.{rules}
 use Rattle.session.proofs.start_under.Goals as goal
 
 pub returns-then-declared_too_long : goal.returns-then-declared_too_long

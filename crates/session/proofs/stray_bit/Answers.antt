@@ -4,7 +4,6 @@ use mathlib.Core.Path.{ap, ◌∙◌}
 use mathlib.Core.Bool.{not}
 use Rattle.bits.specs.Str.{Bits, bytes_bits, same_b}
 use Rattle.session.specs.Record.{stray_bit}
-use borrow.Author.Rules.{rules}
 use Rattle.session.proofs.stray_bit.Goals as goal
 
 pub returns : goal.returns

@@ -2,7 +2,6 @@
 -- Assumes nothing.
 use mathlib.Core.Path.{◌≡◌, ap, ◌∙◌}
 use Rattle.block.specs.Block.{filled_block}
-use Rattle.cipher.specs.Cipher.{Cipher}
 use Rattle.cipher.specs.Ciphers.{cipher_at}
 use Rattle.settings.specs.declared.Settings.{Settings}
 use Rattle.mac.specs.Padding.{method_at, suffix, complete}
@@ -10,7 +9,6 @@ use Rattle.mac.specs.Session.{absorb, finish}
 use Rattle.chain.specs.Chain.{rounds_bits, rounds_of, steps_at, state_at}
 use Rattle.session.specs.Record.{keys_in, state_in}
 use Rattle.session.specs.Calls.{tag_in}
-use borrow.Author.Rules.{rules}
 use Rattle.session.proofs.tag_block.Lts
 use Rattle.session.proofs.tag_block.Reads
 use Rattle.session.proofs.tag_block.Tie

@@ -5,7 +5,6 @@ use borrow.Author.Tests.{le-ltb, lt-ltb}
 use Rattle.bits.proofs.Choice.{hit, miss}
 use Rattle.mac.specs.declared.Row.{Row}
 use Rattle.settings.specs.Faults.{padding_wrong}
-use borrow.Author.Rules.{rules}
 use Rattle.settings.proofs.padding_wrong.Goals as goal
 
 pub returns-then-row : goal.returns-then-row

@@ -4,7 +4,6 @@ use mathlib.Core.Path.{◌∙◌}
 use mathlib.Core.List.{[], ◌∷◌}
 use Rattle.bits.specs.Choice.{◌given◌, first_of, faults}
 use Rattle.settings.specs.Faults.{settings_refusal, settings_faults}
-use borrow.Author.Rules.{rules}
 use Rattle.settings.proofs.refusal.Goals as goal
 
 pub returns : goal.returns

@@ -5,7 +5,6 @@ use borrow.Author.Tests.{le-ltb, lt-ltb}
 use lib.Dec.{ltb}
 use Rattle.mac.specs.declared.Row.{Row}
 use Rattle.settings.specs.Faults.{size_wrong}
-use borrow.Author.Rules.{rules}
 use Rattle.settings.proofs.size_wrong.Goals as goal
 
 pub returns-then-m-lt-SHORTEST_TAG : goal.returns-then-m-lt-SHORTEST_TAG

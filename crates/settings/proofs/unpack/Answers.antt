@@ -1,6 +1,5 @@
 -- `unpack` meets its contract: what `keys::unpack` ensures for the agreement's master and algorithm.
 -- Assumes nothing.
-use borrow.Author.Rules.{rules}
 use Rattle.settings.proofs.unpack.Goals as goal
 
 pub returns : goal.returns

@@ -8,7 +8,6 @@ use lib.ListN.{get_or}
 use borrow.Author.Tests.{eq-eqb, ne_eqb}
 use Rattle.bits.specs.Str.{same_row}
 use Rattle.slip.specs.Slip.{named_values, agreement_unmet}
-use borrow.Author.Rules.{rules}
 use Rattle.slip.proofs.agreement_unmet.Goals as goal
 
 pub returns-then-byte_at-agreement : goal.returns-then-byte_at-agreement

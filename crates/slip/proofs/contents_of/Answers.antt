@@ -10,7 +10,6 @@ use Rattle.fields.specs.declared.Places.{Places}
 use Rattle.fields.proofs.Inside.{lot-there, amount-there, part-from}
 use Rattle.fields.proofs.Laid.{laid_out, lot-place}
 use Rattle.slip.specs.Slip.{contents_of}
-use borrow.Author.Rules.{rules}
 use Rattle.slip.proofs.contents_of.Lts
 use Rattle.slip.proofs.contents_of.Reads
 use Rattle.slip.proofs.contents_of.Tie

@@ -4,7 +4,6 @@ use mathlib.Core.Path.{sym, ap, ◌∙◌}
 use Rattle.slip.specs.Part.{lot_part_in}
 use Rattle.slip.specs.declared.Slip.{Slip}
 use Rattle.slip.proofs.LotInside.{lot-there}
-use borrow.Author.Rules.{rules}
 use Rattle.slip.proofs.lot.Goals as goal
 
 pub returns : goal.returns

@@ -8,7 +8,6 @@ use lib.ListN.{length}
 use borrow.Author.Tests.{le-leb, lt-leb}
 use Rattle.bits.proofs.Choice.{hit, miss}
 use Rattle.slip.specs.Part.{lot_part_in}
-use borrow.Author.Rules.{rules}
 use Rattle.slip.proofs.lot_in.Goals as goal
 
 pub returns-then-slip-at : goal.returns-then-slip-at

@@ -11,7 +11,6 @@ use borrow.Rule.Slice.PartMut.{put_mid, same_len_mid}
 use Rattle.bits.proofs.Lists.{take_rest}
 use Rattle.block.proofs.Fronts.{put_three}
 use Rattle.mac.specs.Tag.{bytes_for}
-use Rattle.settings.specs.declared.Agreement.{Agreement}
 use Rattle.slip.specs.declared.Written.{Written}
 use Rattle.slip.specs.Printed.{sealed_by, written_slip, seal_head}
 use Rattle.slip.proofs.Printing.{length-sealed, sealed-is, put-short, put-fits}

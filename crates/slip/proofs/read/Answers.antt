@@ -10,7 +10,6 @@ use Rattle.fields.proofs.Inside.{seal-there, part-from}
 use Rattle.bits.specs.Choice.{first_of}
 use Rattle.slip.specs.Slip.{agreement_unmet}
 use Rattle.slip.proofs.Judged.{layout-refused, unmet-refused}
-use borrow.Author.Rules.{rules}
 use Rattle.slip.proofs.read.Lts
 use Rattle.slip.proofs.read.Reads
 use Rattle.slip.proofs.read.Tie

@@ -1,7 +1,7 @@
 -- `read_under` meets its contract: what the check's answer makes of the slip (`answered`, from `judged`).
 -- Assumes nothing.
 use mathlib.Core.Path.{◌≡◌, refl, sym, ap, ◌∙◌}
-use mathlib.Core.List.{List, [], ◌∷◌}
+use mathlib.Core.List.{List}
 use native.Mathlib.Omega.{arith}
 use Prim.Native.Nat.{ℕ, ◌+◌, ◌≤◌}
 use lib.ListN.{length}
@@ -10,13 +10,11 @@ use Rattle.bits.proofs.Lists.{take_rest}
 use Rattle.settings.specs.declared.Outcome.{Outcome}
 use Rattle.tag.specs.OneCall.{check_of}
 use Rattle.settings.specs.declared.Outcome.TheVariants.{Accepted, Made, Yes, No, Refused}
-use denote.Enum.Declared.{tag_of}
 use Rattle.fields.specs.Layout.{places_of, seal_at}
 use Rattle.fields.specs.declared.Places.{Places}
 use Rattle.fields.proofs.Laid.{LaidOut, laid_out, seal-most}
 use Rattle.slip.specs.Slip.{accepted_slip, refused_slip, read_of}
 use Rattle.slip.proofs.Judged.{covered-is, covered-bits, seal-head-there, tag_is, verdict, judged}
-use borrow.Author.Rules.{rules}
 use Rattle.slip.proofs.read_under.Lts
 use Rattle.slip.proofs.read_under.Reads
 use Rattle.slip.proofs.read_under.Tie

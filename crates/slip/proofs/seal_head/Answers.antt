@@ -2,7 +2,6 @@
 -- Assumes nothing.
 use mathlib.Core.Path.{refl}
 use Rattle.slip.specs.Printed.{seal_head}
-use borrow.Author.Rules.{rules}
 use Rattle.slip.proofs.seal_head.Goals as goal
 
 pub returns : goal.returns

@@ -7,12 +7,11 @@ use lib.ListN.{length, take, length-take}
 use Rattle.bits.specs.Choice.{first_of}
 use Rattle.writing.specs.Writing.{Says, said, says_faults, covered_of}
 use Rattle.writing.specs.declared.Covered.{Covered}
-use Rattle.writing.proofs.Sayable.{Sayable, sayable, length-covered, laid-refusal, laid-first, laid-count}
+use Rattle.writing.proofs.Sayable.{sayable, length-covered, laid-refusal, laid-first, laid-count}
 use Rattle.writing.proofs.ReadBack.{covered-all}
 use Rattle.slip.specs.Printed.{unwritten_slip}
 use Rattle.slip.specs.declared.Written.{Written}
 use Rattle.slip.proofs.Printing.{says-refused, says-clear}
-use borrow.Author.Rules.{rules}
 use Rattle.slip.proofs.write.Lts
 use Rattle.slip.proofs.write.Reads
 use Rattle.slip.proofs.write.Tie

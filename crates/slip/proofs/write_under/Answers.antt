@@ -1,11 +1,9 @@
 -- `write_under` meets its contract: what the answer of `make` makes of the slip (`answered`, from `sealing-is`).
 -- Assumes nothing.
 use mathlib.Core.Path.{◌≡◌, refl, ap, ◌∙◌}
-use mathlib.Core.List.{List, [], ◌∷◌}
-use native.Mathlib.Omega.{arith}
+use mathlib.Core.List.{List}
 use Prim.Native.Nat.{ℕ}
 use lib.ListN.{length}
-use denote.Enum.Declared.{tag_of}
 use Rattle.settings.specs.InUse.{in_use}
 use Rattle.settings.specs.Faults.{settings_refusal}
 use Rattle.settings.proofs.Sound.{sound-size, sound-bytes}
@@ -15,7 +13,6 @@ use Rattle.settings.specs.declared.Outcome.TheVariants.{Accepted, Made, Yes, No,
 use Rattle.slip.specs.Printed.{unwritten_slip, write_under}
 use Rattle.slip.specs.declared.Written.{Written}
 use Rattle.slip.proofs.Printing.{sealing, sealing-is, made-sound}
-use borrow.Author.Rules.{rules}
 use Rattle.slip.proofs.write_under.Lts
 use Rattle.slip.proofs.write_under.Reads
 use Rattle.slip.proofs.write_under.Tie

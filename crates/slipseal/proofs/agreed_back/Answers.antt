@@ -2,7 +2,6 @@
 -- Assumes nothing.
 use mathlib.Core.Path.{refl}
 use Rattle.slipseal.specs.Border.{agreed_back}
-use borrow.Author.Rules.{rules}
 use Rattle.slipseal.proofs.agreed_back.Goals as goal
 
 pub returns : goal.returns

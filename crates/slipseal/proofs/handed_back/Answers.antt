@@ -4,11 +4,9 @@ use mathlib.Core.Path.{◌≡◌, sym, ap, ◌∙◌}
 use borrow.Author.Tests.{eq-eqb, ne_eqb}
 use Rattle.bits.proofs.Choice.{hit, miss}
 use Rattle.settings.specs.Answers.{number_of}
-use Rattle.session.specs.declared.Step as session-step
 use Rattle.slipseal.specs.Border.{told_of, handed_out, handed_back}
 use Rattle.slipseal.specs.declared.Answer.{Answer}
 use Rattle.slipseal.specs.declared.Step.{Step}
-use borrow.Author.Rules.{rules}
 use Rattle.slipseal.proofs.handed_back.Lts
 use Rattle.slipseal.proofs.handed_back.Reads
 use Rattle.slipseal.proofs.handed_back.Tie

@@ -1,7 +1,6 @@
 -- `handed_out` meets its contract: the answer told, the session outward.
 -- Assumes nothing.
 use Rattle.slipseal.specs.Border.{handed_out}
-use borrow.Author.Rules.{rules}
 use Rattle.slipseal.proofs.handed_out.Goals as goal
 
 pub returns : goal.returns

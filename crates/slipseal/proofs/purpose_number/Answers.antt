@@ -2,7 +2,6 @@
 -- Assumes nothing.
 use mathlib.Core.Path.{refl}
 use Rattle.slipseal.specs.Border.{purpose_number}
-use borrow.Author.Rules.{rules}
 use Rattle.slipseal.proofs.purpose_number.Goals as goal
 
 pub returns-in-Making : goal.returns-in-Making

@@ -2,7 +2,6 @@
 -- Assumes nothing.
 use mathlib.Core.Path.{refl}
 use Rattle.tag.specs.Restore.{restored_number}
-use borrow.Author.Rules.{rules}
 use Rattle.slipseal.proofs.restored_number.Goals as goal
 
 pub returns-in-Filled : goal.returns-in-Filled

@@ -2,7 +2,6 @@
 -- Assumes nothing.
 use mathlib.Core.Path.{refl}
 use Rattle.slipseal.specs.Border.{inward}
-use borrow.Author.Rules.{rules}
 use Rattle.slipseal.proofs.session_from.Goals as goal
 
 pub returns : goal.returns

@@ -2,7 +2,6 @@
 -- Assumes nothing.
 use mathlib.Core.Path.{refl}
 use Rattle.slipseal.specs.Border.{outward}
-use borrow.Author.Rules.{rules}
 use Rattle.slipseal.proofs.session_out.Goals as goal
 
 pub returns : goal.returns

@@ -2,7 +2,6 @@
 -- Assumes nothing.
 use mathlib.Core.Path.{ap, ◌∙◌}
 use Rattle.slipseal.specs.Border.{told_of}
-use borrow.Author.Rules.{rules}
 use Rattle.slipseal.proofs.slipseal_check.Goals as goal
 
 pub returns : goal.returns

@@ -3,7 +3,6 @@
 use mathlib.Core.Path.{ap, ◌∙◌}
 use Rattle.session.specs.Calls.{finish_check_of}
 use Rattle.slipseal.specs.Border.{handed_back}
-use borrow.Author.Rules.{rules}
 use Rattle.slipseal.proofs.slipseal_finish_check.Goals as goal
 
 pub returns : goal.returns

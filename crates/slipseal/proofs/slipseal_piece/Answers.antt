@@ -4,7 +4,6 @@ use mathlib.Core.Path.{ap, ◌∙◌}
 use Rattle.session.specs.Calls.{piece_of}
 use Rattle.session.specs.declared.Session.{Session}
 use Rattle.slipseal.specs.Border.{handed_back}
-use borrow.Author.Rules.{rules}
 use Rattle.slipseal.proofs.slipseal_piece.Goals as goal
 
 pub returns : goal.returns

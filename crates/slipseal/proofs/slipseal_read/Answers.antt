@@ -2,7 +2,6 @@
 -- Assumes nothing.
 use mathlib.Core.Path.{ap, ◌∙◌}
 use Rattle.slipseal.specs.Border.{told_slip}
-use borrow.Author.Rules.{rules}
 use Rattle.slipseal.proofs.slipseal_read.Goals as goal
 
 pub returns : goal.returns

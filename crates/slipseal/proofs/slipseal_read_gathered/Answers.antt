@@ -6,7 +6,6 @@ use Prim.Native.Nat.{ℕ}
 use Rattle.slip.specs.Gathering.{held}
 use Rattle.slip.specs.Slip.{read_of}
 use Rattle.slipseal.specs.Border.{agreed_of, told_slip}
-use borrow.Author.Rules.{rules}
 use Rattle.slipseal.proofs.slipseal_read_gathered.Goals as goal
 
 pub returns : goal.returns

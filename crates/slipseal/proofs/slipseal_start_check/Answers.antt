@@ -2,7 +2,6 @@
 -- Assumes nothing.
 use mathlib.Core.Path.{ap, ◌∙◌}
 use Rattle.slipseal.specs.Border.{handed_out}
-use borrow.Author.Rules.{rules}
 use Rattle.slipseal.proofs.slipseal_start_check.Goals as goal
 
 pub returns : goal.returns

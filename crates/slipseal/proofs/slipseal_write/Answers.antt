@@ -1,6 +1,5 @@
 -- `slipseal_write` meets its contract: what `slip::write` ensures under what was agreed.
 -- Assumes nothing.
-use borrow.Author.Rules.{rules}
 use Rattle.slipseal.proofs.slipseal_write.Goals as goal
 
 pub returns : goal.returns

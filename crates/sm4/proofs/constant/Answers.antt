@@ -2,7 +2,6 @@
 -- Assumes nothing.
 use mathlib.Core.Path.{◌∙◌}
 use mathlib.Core.List.{[], ◌∷◌}
-use borrow.Author.Rules.{rules}
 use Rattle.bits.specs.Str.{bytes_bits}
 use Rattle.sm4.specs.Constants.{CK}
 use Rattle.sm4.proofs.constant.Goals as goal

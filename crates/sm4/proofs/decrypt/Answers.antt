@@ -4,7 +4,6 @@
 use mathlib.Core.Path.{ap, ◌∙◌}
 use mathlib.Core.List.{List, []}
 use mathlib.Mathlib.Data.List.Basic.{map-reverse_aux}
-use borrow.Author.Rules.{rules}
 use Rattle.bits.specs.Str.{Bits, bits_n, bytes_bits, words}
 use Rattle.sm4.specs.Cipher.{enc, dec}
 use Rattle.sm4.proofs.decrypt.Goals as goal

@@ -3,7 +3,6 @@
 use mathlib.Core.Path.{ap, ◌∙◌}
 use Rattle.bits.specs.Str.{words}
 use Rattle.sm4.specs.Cipher.{Quad, flat, R, rounds, T, enc}
-use borrow.Author.Rules.{rules}
 use Rattle.sm4.proofs.encrypt.Goals as goal
 
 pub returns : goal.returns

@@ -1,6 +1,5 @@
 -- `load` meets its contract: its words are the four quarters of the part's bits.
 -- Assumes nothing.
-use borrow.Author.Rules.{rules}
 use Rattle.bits.specs.Str.{words}
 use Rattle.sm4.specs.Cipher.{quad, four}
 use Rattle.sm4.proofs.load.Goals as goal

@@ -1,12 +1,10 @@
 -- `rounds` meets its contract. The loop's invariant is the walk so far (Walk.antt), the measure is the number of rounds left.
 -- Assumes nothing.
 use mathlib.Core.Path.{ap, ◌∙◌}
-use Prim.Native.Nat.{◌-◌}
 use borrow.Author.Rules.{rules}
-use Rattle.bits.specs.Str.{words}
 use Rattle.sm4.specs.Cipher.{R, T}
 use Rattle.sm4.specs.Table.{mixing}
-use Rattle.sm4.proofs.Walk.{Walked, keys-start, keys_on, walk_end}
+use Rattle.sm4.proofs.Walk.{keys-start, keys_on, walk_end}
 use Rattle.sm4.proofs.rounds.Goals as goal
 
 pub loop-turn-init : goal.loop-turn-init

@@ -1,19 +1,17 @@
 -- `schedule` meets its contract. The loop's invariant: the walk so far, under the constants (Walk.antt), and what is written are the
 -- words made by it.
 -- Assumes nothing.
-use mathlib.Core.Path.{◌≡◌, refl, sym, ap, ap₂, ◌∙◌}
-use Prim.Native.Nat.{◌+◌, ◌-◌, ◌%◌}
+use mathlib.Core.Path.{refl, sym, ap, ap₂, ◌∙◌}
+use Prim.Native.Nat.{◌+◌, ◌%◌}
 use native.Mathlib.Omega.{arith}
-use lib.ListN.{length, take}
 use lib.Seq.{take_all}
 use borrow.Author.Rules.{rules}
 use Rattle.bits.specs.Str.{words}
 use Rattle.sm4.specs.Constants.{fk, CKs}
 use Rattle.sm4.specs.Cipher.{T', made, round_keys}
 use Rattle.sm4.specs.Table.{mixing}
-use Rattle.sm4.specs.Split.{joined}
 use Rattle.sm4.proofs.Parts.{newest}
-use Rattle.sm4.proofs.Walk.{Walked, walk_start, walk-on, made-on, length-CKs, CK-at}
+use Rattle.sm4.proofs.Walk.{walk_start, walk-on, made-on, length-CKs, CK-at}
 use Rattle.sm4.proofs.schedule.Goals as goal
 
 pub loop-i-init : goal.loop-i-init

@@ -1,11 +1,9 @@
 -- `wide_rounds` meets its contract, as `rounds` does.
 -- Assumes nothing.
 use mathlib.Core.Path.{ap, ◌∙◌}
-use Prim.Native.Nat.{◌-◌}
 use borrow.Author.Rules.{rules}
-use Rattle.bits.specs.Str.{words}
 use Rattle.sm4.specs.Cipher.{R, T}
-use Rattle.sm4.proofs.Walk.{Walked, keys-start, keys_on, walk_end}
+use Rattle.sm4.proofs.Walk.{keys-start, keys_on, walk_end}
 use Rattle.sm4.proofs.wide_rounds.Goals as goal
 
 pub loop-i-init : goal.loop-i-init

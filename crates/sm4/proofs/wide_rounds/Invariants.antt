@@ -1,11 +1,9 @@
 -- `wide_rounds` meets its contract, as `rounds` does.
 -- Assumes nothing.
-use mathlib.Core.Path.{ap, ◌∙◌}
 use Prim.Native.Nat.{◌-◌}
-use borrow.Author.Rules.{rules}
 use Rattle.bits.specs.Str.{words}
-use Rattle.sm4.specs.Cipher.{R, T}
-use Rattle.sm4.proofs.Walk.{Walked, keys-start, keys_on, walk_end}
+use Rattle.sm4.specs.Cipher.{T}
+use Rattle.sm4.proofs.Walk.{Walked}
 use Rattle.sm4.proofs.wide_rounds.Given as goal
 
 abbrev pub invariant-loop-i : goal.invariant-loop-i

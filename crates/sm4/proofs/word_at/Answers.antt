@@ -6,7 +6,6 @@ use Prim.Native.Nat.{ℕ, suc, ◌+◌, ◌*◌, ◌<◌}
 use native.Mathlib.Omega.{arith}
 use lib.ListN.{length, take, drop, get_or}
 use lib.Seq.{drop-cons}
-use borrow.Author.Rules.{rules}
 use Rattle.bits.specs.Str.{bytes_bits}
 use Rattle.bits.proofs.Packed.{bytes_bits-take, bytes_bits-drop}
 use Rattle.sm4.proofs.word_at.Goals as goal

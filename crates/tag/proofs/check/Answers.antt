@@ -5,7 +5,6 @@ use Rattle.keys.specs.Given.{key_bits}
 use Rattle.settings.specs.InUse.{unpacked}
 use Rattle.settings.proofs.Sound.{sound-fits}
 use Rattle.tag.proofs.Making.{check-refused, check-checked}
-use borrow.Author.Rules.{rules}
 use Rattle.tag.proofs.check.Goals as goal
 
 pub check_under-requires : goal.check_under-requires

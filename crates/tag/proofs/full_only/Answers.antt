@@ -4,7 +4,6 @@ use mathlib.Core.Path.{refl, sym, ◌∙◌}
 use borrow.Author.Tests.{eq-eqb, ne_eqb}
 use Rattle.bits.proofs.Choice.{hit, miss}
 use Rattle.tag.specs.Restore.{full_only}
-use borrow.Author.Rules.{rules}
 use Rattle.tag.proofs.full_only.Goals as goal
 
 pub returns-then-agreement-width : goal.returns-then-agreement-width

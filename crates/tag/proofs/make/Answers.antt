@@ -5,7 +5,6 @@ use Rattle.keys.specs.Given.{key_bits}
 use Rattle.settings.specs.InUse.{unpacked}
 use Rattle.settings.proofs.Sound.{sound-fits}
 use Rattle.tag.proofs.Making.{make-refused, make-made}
-use borrow.Author.Rules.{rules}
 use Rattle.tag.proofs.make.Goals as goal
 
 pub make_under-requires : goal.make_under-requires

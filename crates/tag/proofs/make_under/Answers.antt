@@ -7,7 +7,6 @@ use borrow.Author.Tests.{ltb-false}
 use lib.ListN.{length}
 use Rattle.bits.specs.Choice.{first_of}
 use Rattle.block.specs.Block.{filled_block}
-use Rattle.mac.specs.Run.{Run}
 use Rattle.mac.specs.Algorithm.{Keys}
 use Rattle.mac.specs.Tag.{bytes_for}
 use Rattle.message.specs.Faults.{message_faults, room_short}

@@ -7,7 +7,6 @@ use Rattle.settings.specs.Answers.{checked_of}
 use Rattle.settings.specs.declared.Agreement.{Agreement}
 use Rattle.tag.specs.Restore.{full_only}
 use Rattle.tag.proofs.Restoring.{full-keys, restore-refused, full-settings, restore-restored}
-use borrow.Author.Rules.{rules}
 use Rattle.tag.proofs.restore.Lts
 use Rattle.tag.proofs.restore.Reads
 use Rattle.tag.proofs.restore.Tie

@@ -2,7 +2,6 @@
 -- Assumes nothing.
 use mathlib.Core.Path.{refl}
 use Rattle.writing.specs.Writing.{amount_value}
-use borrow.Author.Rules.{rules}
 use Rattle.writing.proofs.amount_value.Goals as goal
 
 pub returns : goal.returns

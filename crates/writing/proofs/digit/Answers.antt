@@ -2,7 +2,6 @@
 -- Assumes nothing.
 use mathlib.Core.Path.{refl}
 use Rattle.writing.specs.Writing.{digit_of}
-use borrow.Author.Rules.{rules}
 use Rattle.writing.proofs.digit.Goals as goal
 
 pub returns : goal.returns

@@ -9,8 +9,7 @@ use borrow.Author.Tests.{eq-eqb, ne_eqb}
 use Rattle.bits.specs.Choice.{first_of}
 use Rattle.bits.proofs.Choice.{hit, miss}
 use Rattle.writing.specs.Writing.{Says, said, says_faults, covered_of, filled_to, lay_out}
-use Rattle.writing.proofs.Sayable.{Sayable, sayable, length-covered, over_zeros}
-use borrow.Author.Rules.{rules}
+use Rattle.writing.proofs.Sayable.{sayable, length-covered, over_zeros}
 use Rattle.writing.proofs.lay_out.Lts
 use Rattle.writing.proofs.lay_out.Reads
 use Rattle.writing.proofs.lay_out.Tie

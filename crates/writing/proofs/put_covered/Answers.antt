@@ -9,7 +9,6 @@ use Rattle.block.proofs.Fronts.{put_three}
 use Rattle.fields.specs.Format.{expiry_row, lot_row, amount_row}
 use Rattle.fields.specs.Field.{field_of}
 use Rattle.writing.specs.Writing.{said, expiry_value, amount_value, covered_of}
-use borrow.Author.Rules.{rules}
 use Rattle.writing.proofs.put_covered.Goals as goal
 
 pub returns : goal.returns

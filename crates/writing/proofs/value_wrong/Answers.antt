@@ -2,7 +2,6 @@
 -- Assumes nothing.
 use mathlib.Core.Path.{sym, ◌∙◌}
 use Rattle.writing.specs.Writing.{value_wrong}
-use borrow.Author.Rules.{rules}
 use Rattle.writing.proofs.value_wrong.Goals as goal
 
 pub returns-then-outside : goal.returns-then-outside

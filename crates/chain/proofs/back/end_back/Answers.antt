@@ -18,7 +18,6 @@ use Rattle.chain.specs.Back.{backs_of, wanted_end}
 use Rattle.chain.proofs.Firsts.{first-xor}
 use Rattle.chain.proofs.Rows.{inner-back-is}
 use Rattle.chain.proofs.Unwinding.{end_whole, end-padded, ended-block}
-use borrow.Author.Rules.{rules}
 use Rattle.chain.proofs.back.end_back.Goals as goal
 
 pub nonzero_rem-over : goal.nonzero_rem-over

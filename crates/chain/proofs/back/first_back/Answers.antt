@@ -5,7 +5,6 @@ use Rattle.bits.specs.Str.{words}
 use Rattle.bits.proofs.Choice.{hit, miss}
 use Rattle.cipher.specs.Ciphers.{dec_at}
 use Rattle.chain.proofs.Rows.{step-back-is}
-use borrow.Author.Rules.{rules}
 use Rattle.chain.proofs.back.first_back.Goals as goal
 
 pub returns-then-twice : goal.returns-then-twice

@@ -12,7 +12,6 @@ use Rattle.mac.specs.Lost.{backs}
 use Rattle.block.proofs.Windows.{blank}
 use Rattle.chain.proofs.Firsts.{first-xor, first-blank}
 use Rattle.chain.proofs.Rows.{last-back-at, k-is, k'-is, d-is, d'-is}
-use borrow.Author.Rules.{rules}
 use Rattle.chain.proofs.back.last_back.Goals as goal
 
 pub returns-then-algorithm-eq2 : goal.returns-then-algorithm-eq2

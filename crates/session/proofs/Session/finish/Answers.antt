@@ -10,7 +10,6 @@ use Rattle.bits.proofs.Choice.{hit, miss}
 use Rattle.mac.specs.Tag.{bytes_for}
 use Rattle.keys.specs.Given.{Unpacks}
 use Rattle.settings.specs.declared.Outcome.TheVariants.{Made, Refused}
-use Rattle.session.specs.declared.Session.{Session}
 use Rattle.session.specs.Record.{unpacked_in}
 use Rattle.session.specs.Calls.{end_faults, finish_faults, finish_of}
 use Rattle.session.proofs.Open.{Ended, ended, room-wide}

@@ -7,10 +7,8 @@ use borrow.Author.Tests.{eq-eqb, ne_eqb}
 use Rattle.bits.specs.Choice.{first_of}
 use Rattle.bits.proofs.Choice.{hit, miss}
 use Rattle.settings.specs.declared.Outcome.TheVariants.{Refused}
-use Rattle.session.specs.declared.Session.{Session}
 use Rattle.session.specs.Calls.{end_faults, finish_check_faults, finish_check_of}
-use Rattle.session.proofs.Open.{Open, Ended, ended}
-use borrow.Author.Rules.{rules}
+use Rattle.session.proofs.Open.{ended}
 use Rattle.session.proofs.Session.finish_check.Lts
 use Rattle.session.proofs.Session.finish_check.Reads
 use Rattle.session.proofs.Session.finish_check.Tie

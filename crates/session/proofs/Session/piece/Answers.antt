@@ -9,7 +9,6 @@ use Rattle.settings.specs.declared.Outcome.TheVariants.{Accepted, Refused}
 use Rattle.session.specs.declared.Session.{Session}
 use Rattle.session.specs.Calls.{piece_of}
 use Rattle.session.proofs.Open.{taken}
-use borrow.Author.Rules.{rules}
 use Rattle.session.proofs.Session.piece.Goals as goal
 
 pub piece_refusal-no-requires : goal.piece_refusal-no-requires

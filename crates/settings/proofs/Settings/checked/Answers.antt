@@ -5,7 +5,6 @@ use borrow.Author.Tests.{eq-eqb, ne_eqb}
 use Rattle.bits.proofs.Choice.{hit, miss}
 use Rattle.settings.specs.declared.Checked.TheVariants.{Sound, Unsound}
 use Rattle.settings.specs.Answers.{checked_of}
-use borrow.Author.Rules.{rules}
 use Rattle.settings.proofs.Settings.checked.Goals as goal
 
 pub returns-then-no-eq0 : goal.returns-then-no-eq0

@@ -7,7 +7,6 @@ use native.Mathlib.Omega.{arith}
 use lib.ListN.{length, take, length-take}
 use Rattle.slip.specs.Gathering.{most, held}
 use Rattle.slip.proofs.Gathering.{held-few, added}
-use borrow.Author.Rules.{rules}
 use Rattle.slip.proofs.Gathered.add.Lts
 use Rattle.slip.proofs.Gathered.add.Reads
 use Rattle.slip.proofs.Gathered.add.Tie

@@ -5,7 +5,6 @@ use mathlib.Core.List.{List}
 use Prim.Native.Nat.{ℕ}
 use Rattle.slip.specs.Gathering.{held}
 use Rattle.slip.specs.Slip.{read_of}
-use borrow.Author.Rules.{rules}
 use Rattle.slip.proofs.Gathered.read.Goals as goal
 
 pub returns : goal.returns
