@@ -3,4 +3,4 @@
 use Rattle.test_cases.proofs.sessions.zeros.Given as goal
 
 abbrev pub decreases-loop-left : goal.decreases-loop-left
-decreases-loop-left l = l.left
+decreases-loop-left g l = l.left

@@ -4,4 +4,4 @@ use Rattle.std.proofs.Common.{◌-◌}
 use Rattle.test_cases.proofs.slips.print_counts.Given as goal
 
 abbrev pub decreases-loop-no : goal.decreases-loop-no
-decreases-loop-no l = 32 - l.no
+decreases-loop-no g l = 32 - l.no
