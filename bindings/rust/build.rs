@@ -1,4 +1,4 @@
-//! Finds libslipseal.a: in the folder that `SLIPSEAL_LIB_DIR` names, else where `bindings/build` or `rt staticlib` puts it.
+//! Finds libslipseal.a: in the folder that `SLIPSEAL_LIB_DIR` names, else where `bindings/build` puts it.
 
 use std::path::PathBuf;
 use std::{env, process};
@@ -10,8 +10,7 @@ fn folders() -> Vec<PathBuf> {
         return vec![PathBuf::from(folder)];
     }
     let here = env::var_os("CARGO_MANIFEST_DIR").expect("cargo names the crate's folder");
-    let target = PathBuf::from(here).join("../../target");
-    vec![target.join("lib"), target.join("staticlib")]
+    vec![PathBuf::from(here).join("../../target/lib")]
 }
 
 fn main() {

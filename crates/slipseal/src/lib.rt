@@ -135,8 +135,7 @@ fn told(answer: settings::Outcome) -> Answer
     }
 }
 
-#[unsafe(no_mangle)]
-pub extern "C" fn slipseal_make(
+pub fn slipseal_make(
     agreement: Agreement,
     keys: &[u8],
     message: &[u8],
@@ -148,8 +147,7 @@ pub extern "C" fn slipseal_make(
     told(tag::make(agreed(agreement), keys, message, bits, room))
 }
 
-#[unsafe(no_mangle)]
-pub extern "C" fn slipseal_check(
+pub fn slipseal_check(
     agreement: Agreement,
     keys: &[u8],
     message: &[u8],
@@ -171,8 +169,7 @@ fn restored_number(answer: tag::Restored) -> usize
     }
 }
 
-#[unsafe(no_mangle)]
-pub extern "C" fn slipseal_restore(
+pub fn slipseal_restore(
     agreement: Agreement,
     keys: &[u8],
     message: &mut [u8],
@@ -327,43 +324,33 @@ fn handed_back(came: Session, step: session::Step) -> Step
     }
 }
 
-#[unsafe(no_mangle)]
-pub extern "C" fn slipseal_start(agreement: Agreement, keys: &[u8], declared: usize) -> Step
+pub fn slipseal_start(agreement: Agreement, keys: &[u8], declared: usize) -> Step
     ensures { result ≡ handed_out (start_of (agreed_of agreement) keys.now declared) }
 {
     handed_out(session::start(agreed(agreement), keys, declared))
 }
 
-#[unsafe(no_mangle)]
-pub extern "C" fn slipseal_start_check(
-    agreement: Agreement,
-    keys: &[u8],
-    declared: usize,
-    tag: &[u8],
-) -> Step
+pub fn slipseal_start_check(agreement: Agreement, keys: &[u8], declared: usize, tag: &[u8]) -> Step
     ensures { result ≡ handed_out (start_check_of (agreed_of agreement) keys.now declared tag.now) }
 {
     handed_out(session::start_check(agreed(agreement), keys, declared, tag))
 }
 
-#[unsafe(no_mangle)]
-pub extern "C" fn slipseal_piece(came: Session, bytes: &[u8], bits: usize) -> Step
+pub fn slipseal_piece(came: Session, bytes: &[u8], bits: usize) -> Step
     ensures { result ≡ handed_back came (piece_of (inward came) bytes.now bits) }
 {
     let s = session_from(came);
     handed_back(came, s.piece(bytes, bits))
 }
 
-#[unsafe(no_mangle)]
-pub extern "C" fn slipseal_finish(came: Session, room: &mut [u8]) -> Step
+pub fn slipseal_finish(came: Session, room: &mut [u8]) -> Step
     ensures { (result, room.new) ≡ finished_back came (finish_of (inward came) room.old) }
 {
     let s = session_from(came);
     handed_back(came, s.finish(room))
 }
 
-#[unsafe(no_mangle)]
-pub extern "C" fn slipseal_finish_check(came: Session) -> Step
+pub fn slipseal_finish_check(came: Session) -> Step
     ensures { result ≡ handed_back came (finish_check_of (inward came)) }
 {
     let s = session_from(came);
@@ -388,34 +375,26 @@ fn told_slip(read: slip::Slip) -> Slip
     }
 }
 
-#[unsafe(no_mangle)]
-pub extern "C" fn slipseal_read(agreement: Agreement, keys: &[u8], slip: &[u8]) -> Slip
+pub fn slipseal_read(agreement: Agreement, keys: &[u8], slip: &[u8]) -> Slip
     ensures { result ≡ told_slip (read_of (agreed_of agreement) keys.now slip.now) }
 {
     told_slip(slip::read(agreed(agreement), keys, slip))
 }
 
-#[unsafe(no_mangle)]
-pub extern "C" fn slipseal_gather(came: slip::Gathered, bytes: &[u8]) -> slip::Gathered
+pub fn slipseal_gather(came: slip::Gathered, bytes: &[u8]) -> slip::Gathered
     ensures { result ≡ add_of came bytes.now }
 {
     came.add(bytes)
 }
 
-#[unsafe(no_mangle)]
-pub extern "C" fn slipseal_read_gathered(
-    agreement: Agreement,
-    keys: &[u8],
-    came: slip::Gathered,
-) -> Slip
+pub fn slipseal_read_gathered(agreement: Agreement, keys: &[u8], came: slip::Gathered) -> Slip
     ensures { result ≡ told_slip (read_of (agreed_of agreement) keys.now (held came)) }
 {
     let bytes = came.bytes;
     slipseal_read(agreement, keys, slip::held(&bytes, came.count))
 }
 
-#[unsafe(no_mangle)]
-pub extern "C" fn slipseal_write(
+pub fn slipseal_write(
     agreement: Agreement,
     keys: &[u8],
     year: usize,

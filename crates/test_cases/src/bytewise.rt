@@ -1,49 +1,54 @@
 // A session that checks a tag, fed byte by byte: its answer, those to the tag with each bit turned, and that to the message with its
 // first bit turned.
 use crate::{calls, words};
+use std::io;
 use words::print;
 
 // The tag is the first so many bytes of the room.
 pub(crate) fn run(
+    rt: &impl Print,
     line: &[u8],
     agreement: settings::Agreement,
     keys: &[u8],
     bits: usize,
     room: &mut [u8],
     size: usize,
-) {
-    let mut message = io::buffer();
+) -> io::Result<()> {
+    let mut message = [0u8; 4096];
     let count = words::bytes(line, 5, &mut message);
     let first = words::first(&message, count);
-    let calls = told(agreement, keys, first, bits, words::first(room, size));
+    let calls = told(rt, agreement, keys, first, bits, words::first(room, size))?;
     let good = turned(agreement, keys, first, bits, room, size, calls);
-    words::print_both(b", ", good);
-    words::print_both(b" of ", size % 4097 * 8);
-    print(b" turned: no, message turned: ");
+    words::print_both(rt, b", ", good)?;
+    words::print_both(rt, b" of ", size % 4097 * 8)?;
+    print(rt, b" turned: no, message turned: ")?;
     message[0] = message[0] ^ 128;
     told(
+        rt,
         agreement,
         keys,
         words::first(&message, count),
         bits,
         words::first(room, size),
-    );
+    )?;
+    Ok(())
 }
 
 // The session's answer, printed, and its calls.
 fn told(
+    rt: &impl Print,
     agreement: settings::Agreement,
     keys: &[u8],
     message: &[u8],
     bits: usize,
     tag: &[u8],
-) -> usize {
+) -> io::Result<usize> {
     let answer = checked(agreement, keys, message, bits, tag);
-    calls::print_answer(answer);
+    calls::print_answer(rt, answer)?;
     match answer {
-        settings::Outcome::Yes(calls) => calls,
-        settings::Outcome::No(calls) => calls,
-        _ => 0,
+        settings::Outcome::Yes(calls) => Ok(calls),
+        settings::Outcome::No(calls) => Ok(calls),
+        _ => Ok(0),
     }
 }
 
@@ -85,22 +90,19 @@ fn turned(
     let mut left = size % 4097 * 8;
     while 0 < left {
         left -= 1;
-        good = std::num::wrapping_add_usize(
-            good,
-            is_no(
-                turned_once(
-                    agreement,
-                    keys,
-                    message,
-                    bits,
-                    room,
-                    size,
-                    left / 8,
-                    [1u8, 2, 4, 8, 16, 32, 64, 128][left % 8],
-                ),
-                calls,
+        good = good.wrapping_add(is_no(
+            turned_once(
+                agreement,
+                keys,
+                message,
+                bits,
+                room,
+                size,
+                left / 8,
+                [1u8, 2, 4, 8, 16, 32, 64, 128][left % 8],
             ),
-        );
+            calls,
+        ));
     }
     good
 }

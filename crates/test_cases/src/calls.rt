@@ -1,57 +1,73 @@
 // Commands with a message: in one call, or in sessions (halves.rt, bytewise.rt); and what the library answers, printed.
 use crate::{bytewise, halves, words};
+use std::io;
 use words::print;
 
-pub(crate) fn command(kind: usize, line: &[u8]) {
-    let mut keys = io::buffer();
+pub(crate) fn command(rt: &impl Print, kind: usize, line: &[u8]) -> io::Result<()> {
+    let mut keys = [0u8; 4096];
     let key_bytes = words::bytes(line, 4, &mut keys);
-    let mut message = io::buffer();
+    let mut message = [0u8; 4096];
     let message_bytes = words::bytes(line, 5, &mut message);
     answer(
+        rt,
         kind,
         line,
         words::first(&keys, key_bytes),
         words::first(&message, message_bytes),
-    );
+    )
 }
 
-fn answer(kind: usize, line: &[u8], keys: &[u8], message: &[u8]) {
+fn answer(
+    rt: &impl Print,
+    kind: usize,
+    line: &[u8],
+    keys: &[u8],
+    message: &[u8],
+) -> io::Result<()> {
     let agreement = words::agreement(line);
     let number = words::number(line, 6);
-    let mut tag = io::buffer();
+    let mut tag = [0u8; 4096];
     let tag_bytes = words::bytes(line, 7, &mut tag);
     if kind == crate::CHECK {
-        print_answer(tag::check(
-            agreement,
-            keys,
-            message,
-            number,
-            words::first(&tag, tag_bytes),
-        ));
-        return;
+        return print_answer(
+            rt,
+            tag::check(
+                agreement,
+                keys,
+                message,
+                number,
+                words::first(&tag, tag_bytes),
+            ),
+        );
     }
     if kind == crate::HALVES {
-        halves::run(
+        return halves::run(
+            rt,
             agreement,
             keys,
             message,
             number,
             words::first(&tag, tag_bytes),
         );
-        return;
     }
     if kind == crate::BYTEWISE {
-        bytewise::run(line, agreement, keys, number, &mut tag, tag_bytes);
-        return;
+        return bytewise::run(rt, line, agreement, keys, number, &mut tag, tag_bytes);
     }
-    make(agreement, keys, message, number, words::number(line, 7));
+    make(rt, agreement, keys, message, number, words::number(line, 7))
 }
 
-fn make(agreement: settings::Agreement, keys: &[u8], message: &[u8], bits: usize, size: usize) {
+fn make(
+    rt: &impl Print,
+    agreement: settings::Agreement,
+    keys: &[u8],
+    message: &[u8],
+    bits: usize,
+    size: usize,
+) -> io::Result<()> {
     let mut room = [0xEEu8; 32];
     let answer = tag::make(agreement, keys, message, bits, lent(&mut room, size));
-    print_answer(answer);
-    print_room(answer, size, &room);
+    print_answer(rt, answer)?;
+    print_room(rt, answer, size, &room)
 }
 
 // The first so many bytes, or all where there are fewer.
@@ -62,36 +78,39 @@ pub(crate) fn lent(s: &mut [u8], count: usize) -> &mut [u8] {
     s
 }
 
-fn counted(what: &[u8], calls: usize) {
-    words::print_both(what, calls);
-    print(b" calls");
+fn counted(rt: &impl Print, what: &[u8], calls: usize) -> io::Result<()> {
+    words::print_both(rt, what, calls)?;
+    print(rt, b" calls")
 }
 
-pub(crate) fn print_answer(answer: settings::Outcome) {
+pub(crate) fn print_answer(rt: &impl Print, answer: settings::Outcome) -> io::Result<()> {
     match answer {
-        settings::Outcome::Accepted => print(b"accepted"),
-        settings::Outcome::Made(calls) => counted(b"made ", calls),
-        settings::Outcome::Yes(calls) => counted(b"yes ", calls),
-        settings::Outcome::No(calls) => counted(b"no ", calls),
-        settings::Outcome::Refused(no) => words::print_both(b"refused ", no),
+        settings::Outcome::Accepted => print(rt, b"accepted"),
+        settings::Outcome::Made(calls) => counted(rt, b"made ", calls),
+        settings::Outcome::Yes(calls) => counted(rt, b"yes ", calls),
+        settings::Outcome::No(calls) => counted(rt, b"no ", calls),
+        settings::Outcome::Refused(no) => words::print_both(rt, b"refused ", no),
     }
 }
 
 // The room's first bytes after a tag was made; after a refusal, whether each of its bytes is still what it was.
-pub(crate) fn print_room(answer: settings::Outcome, size: usize, room: &[u8]) {
+pub(crate) fn print_room(
+    rt: &impl Print,
+    answer: settings::Outcome,
+    size: usize,
+    room: &[u8],
+) -> io::Result<()> {
     if let settings::Outcome::Made(_) = answer {
-        print(b" ");
-        words::print_bytes(words::first(room, size));
-        return;
+        print(rt, b" ")?;
+        return words::print_bytes(rt, words::first(room, size));
     }
-    print_kept(room, &[0xEEu8; 32]);
+    print_kept(rt, room, &[0xEEu8; 32])
 }
 
 // Whether each byte of a room is still what it was.
-pub(crate) fn print_kept(room: &[u8], before: &[u8]) {
+pub(crate) fn print_kept(rt: &impl Print, room: &[u8], before: &[u8]) -> io::Result<()> {
     if check::same(room, before) {
-        print(b" untouched");
-        return;
+        return print(rt, b" untouched");
     }
-    print(b" CHANGED");
+    print(rt, b" CHANGED")
 }

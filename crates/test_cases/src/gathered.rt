@@ -1,45 +1,63 @@
 // Commands on lot slips that come in reads: gathered into a record, and read from it.
 use crate::{slips, words};
+use std::io;
 use words::print;
 
-pub(crate) fn command(kind: usize, line: &[u8]) {
-    let mut keys = io::buffer();
+pub(crate) fn command(rt: &impl Print, kind: usize, line: &[u8]) -> io::Result<()> {
+    let mut keys = [0u8; 4096];
     let key_bytes = words::bytes(line, 4, &mut keys);
     answer(
+        rt,
         kind,
         line,
         words::agreement(line),
         words::first(&keys, key_bytes),
-    );
+    )
 }
 
-fn answer(kind: usize, line: &[u8], agreement: settings::Agreement, keys: &[u8]) {
+fn answer(
+    rt: &impl Print,
+    kind: usize,
+    line: &[u8],
+    agreement: settings::Agreement,
+    keys: &[u8],
+) -> io::Result<()> {
     if kind == crate::RECORD {
-        record(line, agreement, keys);
-        return;
+        return record(rt, line, agreement, keys);
     }
-    let mut slip = io::buffer();
+    let mut slip = [0u8; 4096];
     let slip_bytes = words::bytes(line, 5, &mut slip);
     if kind == crate::TRICKLED {
-        print_read(
+        return print_read(
+            rt,
             agreement,
             keys,
             trickled(words::first(&slip, slip_bytes), words::number(line, 6)),
         );
-        return;
     }
-    print(b"alone ");
-    slips::print_counts(firsts(agreement, keys, words::first(&slip, slip_bytes), false));
-    print(b"; with the rest ");
-    slips::print_counts(firsts(agreement, keys, words::first(&slip, slip_bytes), true));
+    print(rt, b"alone ")?;
+    slips::print_counts(
+        rt,
+        firsts(agreement, keys, words::first(&slip, slip_bytes), false),
+    )?;
+    print(rt, b"; with the rest ")?;
+    slips::print_counts(
+        rt,
+        firsts(agreement, keys, words::first(&slip, slip_bytes), true),
+    )
 }
 
 // What a record is answered; the lot is a part of a copy of its bytes.
-fn print_read(agreement: settings::Agreement, keys: &[u8], came: slip::Gathered) {
+fn print_read(
+    rt: &impl Print,
+    agreement: settings::Agreement,
+    keys: &[u8],
+    came: slip::Gathered,
+) -> io::Result<()> {
     let bytes = came.bytes;
     let read = came.read(agreement, keys);
     let contents = read.contents;
-    slips::print_answer(read, slip::lot_in(&bytes, contents));
+    slips::print_answer(rt, read, slip::lot_in(&bytes, contents))
 }
 
 // ---- every first read
@@ -150,22 +168,27 @@ fn trickled(slip: &[u8], size: usize) -> slip::Gathered {
 // ---- any record
 
 // A record of any count and bytes: as it is, and with one more read; and the record that this read leaves.
-fn record(line: &[u8], agreement: settings::Agreement, keys: &[u8]) {
+fn record(
+    rt: &impl Print,
+    line: &[u8],
+    agreement: settings::Agreement,
+    keys: &[u8],
+) -> io::Result<()> {
     let mut bytes = [0u8; 80];
     words::bytes(line, 6, &mut bytes);
     let came = slip::Gathered {
         count: words::number(line, 5),
         bytes,
     };
-    print(b"alone ");
-    print_read(agreement, keys, came);
-    let mut more = io::buffer();
+    print(rt, b"alone ")?;
+    print_read(rt, agreement, keys, came)?;
+    let mut more = [0u8; 4096];
     let more_bytes = words::bytes(line, 7, &mut more);
     let after = came.add(words::first(&more, more_bytes));
-    print(b"; with the read ");
-    print_read(agreement, keys, after);
-    words::print_both(b"; record ", after.count);
-    print(b" ");
+    print(rt, b"; with the read ")?;
+    print_read(rt, agreement, keys, after)?;
+    words::print_both(rt, b"; record ", after.count)?;
+    print(rt, b" ")?;
     let kept = after.bytes;
-    words::print_bytes(&kept);
+    words::print_bytes(rt, &kept)
 }

@@ -1,5 +1,6 @@
 // A message of whole bytes in two pieces, cut at every byte: in how many of these sessions the tag and the calls come out.
 use crate::words;
+use std::io;
 use words::print;
 
 // The bits of bytes, of which a word has at most 4096.
@@ -8,30 +9,34 @@ fn bits(bytes: &[u8]) -> usize {
 }
 
 pub(crate) fn run(
+    rt: &impl Print,
     agreement: settings::Agreement,
     keys: &[u8],
     message: &[u8],
     calls: usize,
     tag: &[u8],
-) {
+) -> io::Result<()> {
     let step = session::start(agreement, keys, bits(message));
     let begun = step.session;
-    cuts(begun, message, tag, calls);
+    cuts(rt, begun, message, tag, calls)
 }
 
-fn cuts(begun: session::Session, message: &[u8], tag: &[u8], calls: usize) {
+fn cuts(
+    rt: &impl Print,
+    begun: session::Session,
+    message: &[u8],
+    tag: &[u8],
+    calls: usize,
+) -> io::Result<()> {
     let mut good: usize = 0;
     let mut at = 0;
     while at < message.len() + 1 {
-        good = std::num::wrapping_add_usize(
-            good,
-            comes_out(begun, &message[0..at], &message[at..], tag, calls),
-        );
+        good = good.wrapping_add(comes_out(begun, &message[0..at], &message[at..], tag, calls));
         at += 1;
     }
-    words::print_number(good);
-    words::print_both(b" of ", at);
-    print(b" cuts");
+    words::print_number(rt, good)?;
+    words::print_both(rt, b" of ", at)?;
+    print(rt, b" cuts")
 }
 
 // 1 where a begun session of these two pieces gives the tag and reports the calls, else 0.

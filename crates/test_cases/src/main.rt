@@ -39,6 +39,8 @@
 // start_check, finish_check and aim act on one session, closed and zero at the text's first line, and print its phase after their
 // answer; PHASE is 0 closed, 1 at a byte edge, 2 after a part byte of PART bits, and PURPOSE 0 making, 1 checking. A line whose
 // first word is # is printed alone. No other line is looked for: tests/make-runs stores none that the reference cannot read.
+#![tactic(auto)]
+
 mod bytewise;
 mod calls;
 mod gathered;
@@ -49,6 +51,9 @@ mod slips;
 mod words;
 mod writes;
 
+use std::io::Read;
+use std::rt::Files;
+use std::{env, fs, io};
 use words::print;
 
 // The commands, in the order of their numbers; 0 is a remark.
@@ -92,74 +97,74 @@ pub(crate) const FINISH_CHECK: usize = 21;
 
 pub(crate) const AIM: usize = 22;
 
-fn main() {
-    let count = os::arg_count();
-    let mut i = 1;
-    while i < count {
-        text(i);
-        i += 1;
+fn main(rt: HostRuntime) -> io::Result<()> {
+    for name in env::args(&rt)?.skip(1) {
+        text(&rt, &name)?;
     }
+    Ok(())
 }
 
-// The text that an argument names.
-fn text(i: usize) {
-    let mut name = io::buffer();
-    let n = os::arg(i, &mut name);
-    let file = os::open_read(&name[..n]);
-    let mut text = io::large_buffer();
-    let size = io::read_full(file, &mut text);
-    libc::close(file);
-    lines(&text[..size]);
+// The text that an argument names, of which the first 65536 bytes are read.
+fn text(rt: &(impl Files + Alloc + Print), name: &str) -> io::Result<()> {
+    let mut text = Vec::new(rt.alloc());
+    fs::open(rt, name)?.take(65536).read_to_end(&mut text)?;
+    lines(rt, &text)
 }
 
-fn lines(text: &[u8]) {
+fn lines(rt: &impl Print, text: &[u8]) -> io::Result<()> {
     let mut state = sessions::closed();
     let mut at = 0;
     while at < text.len() {
         let end = words::find(text, at, b'\n');
-        let next = line(&text[at..end], state);
+        let next = line(rt, &text[at..end], state)?;
         state = next;
         if end == text.len() {
-            return;
+            return Ok(());
         }
         at = end + 1;
     }
+    Ok(())
 }
 
-fn line(line: &[u8], state: sessions::State) -> sessions::State {
-    print(line);
+fn line(rt: &impl Print, line: &[u8], state: sessions::State) -> io::Result<sessions::State> {
+    print(rt, line)?;
     let names = NAMES;
     let kind = words::place(&names, words::word(line, 0));
     if kind == 0 {
-        print(b"\n");
-        return state;
+        print(rt, b"\n")?;
+        return Ok(state);
     }
-    print(b" -> ");
-    let next = answered(kind, line, state);
-    print(b"\n");
-    next
+    print(rt, b" -> ")?;
+    let next = answered(rt, kind, line, state)?;
+    print(rt, b"\n")?;
+    Ok(next)
 }
 
-fn answered(kind: usize, line: &[u8], state: sessions::State) -> sessions::State {
+fn answered(
+    rt: &impl Print,
+    kind: usize,
+    line: &[u8],
+    state: sessions::State,
+) -> io::Result<sessions::State> {
     if kind < RESTORE {
-        calls::command(kind, line);
-        return state;
+        calls::command(rt, kind, line)?;
+        return Ok(state);
     }
     if kind < SLIP {
-        lost::command(kind, line);
-        return state;
+        lost::command(rt, kind, line)?;
+        return Ok(state);
     }
     if kind < FIRSTS {
-        slips::command(kind, line);
-        return state;
+        slips::command(rt, kind, line)?;
+        return Ok(state);
     }
     if kind < WRITE {
-        gathered::command(kind, line);
-        return state;
+        gathered::command(rt, kind, line)?;
+        return Ok(state);
     }
     if kind < START {
-        writes::command(line);
-        return state;
+        writes::command(rt, line)?;
+        return Ok(state);
     }
-    sessions::command(kind, line, state)
+    sessions::command(rt, kind, line, state)
 }

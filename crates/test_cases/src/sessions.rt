@@ -1,5 +1,6 @@
 // Commands on one session, which goes from line to line.
 use crate::{calls, words};
+use std::io;
 use words::print;
 
 // The session, and whether the last command on it left every field as it was.
@@ -24,106 +25,130 @@ pub(crate) fn closed() -> State {
     }
 }
 
-pub(crate) fn command(kind: usize, line: &[u8], state: State) -> State {
+pub(crate) fn command(
+    rt: &impl Print,
+    kind: usize,
+    line: &[u8],
+    state: State,
+) -> io::Result<State> {
     if kind == crate::SAME {
-        return tell(state);
+        return tell(rt, state);
     }
     let before = state.session;
-    let after = next(kind, line, before);
+    let after = next(rt, kind, line, before)?;
     let phase = after.phase;
-    print_phase(phase);
-    State {
+    print_phase(rt, phase)?;
+    Ok(State {
         session: after,
         same: same(before, after),
-    }
+    })
 }
 
-fn tell(state: State) -> State {
+fn tell(rt: &impl Print, state: State) -> io::Result<State> {
     if state.same {
-        print(b"same");
+        print(rt, b"same")?;
     } else {
-        print(b"changed");
+        print(rt, b"changed")?;
     }
     let kept = state.session;
     let phase = kept.phase;
-    print_phase(phase);
-    state
+    print_phase(rt, phase)?;
+    Ok(state)
 }
 
-fn print_phase(phase: session::Phase) {
+fn print_phase(rt: &impl Print, phase: session::Phase) -> io::Result<()> {
     match phase {
-        session::Phase::Closed => print(b", closed"),
-        session::Phase::Edge => print(b", edge"),
-        session::Phase::Part(n) => words::print_both(b", part ", n),
+        session::Phase::Closed => print(rt, b", closed"),
+        session::Phase::Edge => print(rt, b", edge"),
+        session::Phase::Part(n) => words::print_both(rt, b", part ", n),
     }
 }
 
 // The session after a command.
-fn next(kind: usize, line: &[u8], before: session::Session) -> session::Session {
+fn next(
+    rt: &impl Print,
+    kind: usize,
+    line: &[u8],
+    before: session::Session,
+) -> io::Result<session::Session> {
     if kind == crate::START {
-        return start(line);
+        return start(rt, line);
     }
     if kind == crate::PIECE {
-        return piece(line, before);
+        return piece(rt, line, before);
     }
     if kind == crate::ZEROS {
-        return zeros(words::number(line, 1), words::number(line, 2), before);
+        return zeros(rt, words::number(line, 1), words::number(line, 2), before);
     }
     if kind == crate::FINISH {
-        return finish(words::number(line, 1), before);
+        return finish(rt, words::number(line, 1), before);
     }
     if kind == crate::START_CHECK {
-        return start_check(line);
+        return start_check(rt, line);
     }
     if kind == crate::FINISH_CHECK {
-        return told(before.finish_check());
+        return told(rt, before.finish_check());
     }
     if kind == crate::AIM {
-        print(b"aimed");
-        return aimed(line, before);
+        print(rt, b"aimed")?;
+        return Ok(aimed(line, before));
     }
-    print(b"forged");
-    forged(line)
+    print(rt, b"forged")?;
+    Ok(forged(line))
 }
 
 // A step's session, its answer printed.
-fn told(step: session::Step) -> session::Session {
+fn told(rt: &impl Print, step: session::Step) -> io::Result<session::Session> {
     let answer = step.answer;
-    calls::print_answer(answer);
-    step.session
+    calls::print_answer(rt, answer)?;
+    Ok(step.session)
 }
 
-fn start(line: &[u8]) -> session::Session {
-    let mut keys = io::buffer();
+fn start(rt: &impl Print, line: &[u8]) -> io::Result<session::Session> {
+    let mut keys = [0u8; 4096];
     let key_bytes = words::bytes(line, 4, &mut keys);
-    told(session::start(
-        words::agreement(line),
-        words::first(&keys, key_bytes),
-        words::number(line, 5),
-    ))
+    told(
+        rt,
+        session::start(
+            words::agreement(line),
+            words::first(&keys, key_bytes),
+            words::number(line, 5),
+        ),
+    )
 }
 
-fn start_check(line: &[u8]) -> session::Session {
-    let mut keys = io::buffer();
+fn start_check(rt: &impl Print, line: &[u8]) -> io::Result<session::Session> {
+    let mut keys = [0u8; 4096];
     let key_bytes = words::bytes(line, 4, &mut keys);
-    let mut tag = io::buffer();
+    let mut tag = [0u8; 4096];
     let tag_bytes = words::bytes(line, 6, &mut tag);
-    told(session::start_check(
-        words::agreement(line),
-        words::first(&keys, key_bytes),
-        words::number(line, 5),
-        words::first(&tag, tag_bytes),
-    ))
+    told(
+        rt,
+        session::start_check(
+            words::agreement(line),
+            words::first(&keys, key_bytes),
+            words::number(line, 5),
+            words::first(&tag, tag_bytes),
+        ),
+    )
 }
 
-fn piece(line: &[u8], before: session::Session) -> session::Session {
-    let mut bytes = io::buffer();
+fn piece(rt: &impl Print, line: &[u8], before: session::Session) -> io::Result<session::Session> {
+    let mut bytes = [0u8; 4096];
     let count = words::bytes(line, 1, &mut bytes);
-    told(before.piece(words::first(&bytes, count), words::number(line, 2)))
+    told(
+        rt,
+        before.piece(words::first(&bytes, count), words::number(line, 2)),
+    )
 }
 
-fn zeros(count: usize, pieces: usize, before: session::Session) -> session::Session {
-    let bytes = io::large_buffer();
+fn zeros(
+    rt: &impl Print,
+    count: usize,
+    pieces: usize,
+    before: session::Session,
+) -> io::Result<session::Session> {
+    let bytes = [0u8; 65536];
     let mut step = before.piece(words::first(&bytes, count), count % 65537 * 8);
     let mut left = pieces;
     while 1 < left {
@@ -132,16 +157,16 @@ fn zeros(count: usize, pieces: usize, before: session::Session) -> session::Sess
         step = more;
         left -= 1;
     }
-    told(step)
+    told(rt, step)
 }
 
-fn finish(size: usize, before: session::Session) -> session::Session {
+fn finish(rt: &impl Print, size: usize, before: session::Session) -> io::Result<session::Session> {
     let mut room = [0xEEu8; 32];
     let step = before.finish(calls::lent(&mut room, size));
     let answer = step.answer;
-    calls::print_answer(answer);
-    calls::print_room(answer, size, &room);
-    step.session
+    calls::print_answer(rt, answer)?;
+    calls::print_room(rt, answer, size, &room)?;
+    Ok(step.session)
 }
 
 // The same record for a purpose, with a tag expected.

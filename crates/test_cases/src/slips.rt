@@ -1,39 +1,47 @@
 // Commands on lot slips under what was agreed: one slip read, a slip with each byte changed to every other value, and every beginning
 // of a slip.
 use crate::words;
+use std::io;
 use words::print;
 
 // How often each number was answered: 0 to 30 at its index; 31 is what no slip may get, as a refusal with a value beside it.
 pub(crate) type Counts = [usize; 32];
 
-pub(crate) fn command(kind: usize, line: &[u8]) {
-    let mut keys = io::buffer();
+pub(crate) fn command(rt: &impl Print, kind: usize, line: &[u8]) -> io::Result<()> {
+    let mut keys = [0u8; 4096];
     let key_bytes = words::bytes(line, 4, &mut keys);
-    let mut slip = io::buffer();
+    let mut slip = [0u8; 4096];
     let slip_bytes = words::bytes(line, 5, &mut slip);
     answer(
+        rt,
         kind,
         words::agreement(line),
         words::first(&keys, key_bytes),
         &mut slip,
         slip_bytes,
-    );
+    )
 }
 
 // The slip is the first so many bytes of the room.
-fn answer(kind: usize, agreement: settings::Agreement, keys: &[u8], room: &mut [u8], size: usize) {
+fn answer(
+    rt: &impl Print,
+    kind: usize,
+    agreement: settings::Agreement,
+    keys: &[u8],
+    room: &mut [u8],
+    size: usize,
+) -> io::Result<()> {
     if kind == crate::SLIP {
-        print_answer(
+        return print_answer(
+            rt,
             slip::read(agreement, keys, words::first(room, size)),
             slip::lot(agreement, keys, words::first(room, size)),
         );
-        return;
     }
     if kind == crate::CHANGED {
-        print_counts(changed(agreement, keys, room, size));
-        return;
+        return print_counts(rt, changed(agreement, keys, room, size));
     }
-    print_counts(prefixes(agreement, keys, words::first(room, size)));
+    print_counts(rt, prefixes(agreement, keys, words::first(room, size)))
 }
 
 // ---- one slip
@@ -66,32 +74,37 @@ pub(crate) fn number_of(read: slip::Slip, lot: &[u8]) -> usize {
 }
 
 // What was read of a slip, and the part that came as its lot.
-pub(crate) fn print_answer(read: slip::Slip, lot: &[u8]) {
+pub(crate) fn print_answer(rt: &impl Print, read: slip::Slip, lot: &[u8]) -> io::Result<()> {
     if read.number == 0 {
-        print_accepted(read.contents, lot, read.calls);
-        return;
+        return print_accepted(rt, read.contents, lot, read.calls);
     }
-    words::print_both(b"refused ", read.number);
+    words::print_both(rt, b"refused ", read.number)?;
     if number_of(read, lot) != read.number {
-        print(b" with values");
+        print(rt, b" with values")?;
     }
+    Ok(())
 }
 
-fn print_accepted(contents: slip::Contents, lot: &[u8], calls: usize) {
-    words::print_both(b"accepted ", contents.year);
-    print_two_digits(contents.month);
-    print_two_digits(contents.day);
-    print(b" lot ");
-    print(lot);
-    words::print_both(b" at ", contents.lot_at);
-    words::print_both(b" length ", contents.lot_len);
-    words::print_both(b" amount ", contents.amount);
-    words::print_both(b" calls ", calls);
+fn print_accepted(
+    rt: &impl Print,
+    contents: slip::Contents,
+    lot: &[u8],
+    calls: usize,
+) -> io::Result<()> {
+    words::print_both(rt, b"accepted ", contents.year)?;
+    print_two_digits(rt, contents.month)?;
+    print_two_digits(rt, contents.day)?;
+    print(rt, b" lot ")?;
+    print(rt, lot)?;
+    words::print_both(rt, b" at ", contents.lot_at)?;
+    words::print_both(rt, b" length ", contents.lot_len)?;
+    words::print_both(rt, b" amount ", contents.amount)?;
+    words::print_both(rt, b" calls ", calls)
 }
 
-fn print_two_digits(n: usize) {
-    words::print_both(b"-", n / 10);
-    words::print_number(n % 10);
+fn print_two_digits(rt: &impl Print, n: usize) -> io::Result<()> {
+    words::print_both(rt, b"-", n / 10)?;
+    words::print_number(rt, n % 10)
 }
 
 // ---- many slips
@@ -99,7 +112,7 @@ fn print_two_digits(n: usize) {
 pub(crate) fn counted(counts: Counts, no: usize) -> Counts {
     let mut next = counts;
     let i = no % 32;
-    next[i] = std::num::wrapping_add_usize(next[i], 1);
+    next[i] = next[i].wrapping_add(1);
     next
 }
 
@@ -155,20 +168,21 @@ fn prefixes(agreement: settings::Agreement, keys: &[u8], slip: &[u8]) -> Counts 
     counts
 }
 
-pub(crate) fn print_counts(counts: Counts) {
-    words::print_number(counts[0]);
-    print(b" accepted");
+pub(crate) fn print_counts(rt: &impl Print, counts: Counts) -> io::Result<()> {
+    words::print_number(rt, counts[0])?;
+    print(rt, b" accepted")?;
     let mut no = 1;
     while no < 32 {
-        print_refused(counts[no], no);
+        print_refused(rt, counts[no], no)?;
         no += 1;
     }
+    Ok(())
 }
 
-fn print_refused(count: usize, no: usize) {
+fn print_refused(rt: &impl Print, count: usize, no: usize) -> io::Result<()> {
     if count == 0 {
-        return;
+        return Ok(());
     }
-    words::print_both(b", ", count);
-    words::print_both(b" refused ", no);
+    words::print_both(rt, b", ", count)?;
+    words::print_both(rt, b" refused ", no)
 }

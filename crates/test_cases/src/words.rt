@@ -1,6 +1,8 @@
 // A line's words, with one blank between them, and what they stand for; and what is printed.
 ghost use Rattle.std.specs.Prelude.{◌≤◌, length};
 
+use std::io;
+
 // The place of the first such byte at or after an index, or the length.
 pub(crate) fn find(s: &[u8], from: usize, mark: u8) -> usize
     requires { from ≤ length s.now }
@@ -56,7 +58,7 @@ pub(crate) fn number(line: &[u8], before: usize) -> usize {
     let mut n: usize = 0;
     let mut i = 0;
     while i < end {
-        n = std::num::wrapping_add_usize(n % 1844674407370955162 * 10, (word[i] % 16) as usize);
+        n = (n % 1844674407370955162 * 10).wrapping_add((word[i] % 16) as usize);
         i += 1;
     }
     n
@@ -115,17 +117,17 @@ pub(crate) fn rest(s: &[u8], count: usize) -> &[u8] {
     &s[0..0]
 }
 
-pub(crate) fn print(text: &[u8]) {
-    io::write_all(libc::STDOUT_FILENO, text);
+pub(crate) fn print(rt: &impl Print, text: &[u8]) -> io::Result<()> {
+    rt.write_all(text)
 }
 
-pub(crate) fn print_number(n: usize) {
-    io::print_decimal(libc::STDOUT_FILENO, n as u64);
+pub(crate) fn print_number(rt: &impl Print, n: usize) -> io::Result<()> {
+    print!(rt; "{n}")
 }
 
-pub(crate) fn print_both(text: &[u8], n: usize) {
-    print(text);
-    print_number(n);
+pub(crate) fn print_both(rt: &impl Print, text: &[u8], n: usize) -> io::Result<()> {
+    print(rt, text)?;
+    print_number(rt, n)
 }
 
 // The hex digit of the lower half of a byte.
@@ -134,11 +136,10 @@ fn glyph(byte: u8) -> u8 {
     value + 48 + value / 10 * 7
 }
 
-pub(crate) fn print_bytes(s: &[u8]) {
-    let mut i = 0;
-    while i < s.len() {
-        let digits = [glyph(s[i] / 16), glyph(s[i])];
-        print(&digits);
-        i += 1;
+pub(crate) fn print_bytes(rt: &impl Print, s: &[u8]) -> io::Result<()> {
+    for byte in s {
+        let digits = [glyph(*byte / 16), glyph(*byte)];
+        print(rt, &digits)?;
     }
+    Ok(())
 }

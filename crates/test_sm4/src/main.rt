@@ -1,15 +1,17 @@
 // The two examples of GB/T 32907-2016, run: one block enciphered once and a million times, and deciphered as often.
+#![tactic(auto)]
+
 ghost use Rattle.std.specs.Prelude.{◌≡◌};
 ghost use Rattle.sm4.specs.Table.{table};
 
-fn line(what: &[u8], block: [u8; 16]) {
-    io::write_all(1, what);
-    let mut i: usize = 0;
-    while i < 16 {
-        io::print_hex(1, block[i] as u64, 2);
-        i += 1;
+use std::io;
+
+fn line(rt: &impl Print, what: &str, block: [u8; 16]) -> io::Result<()> {
+    print!(rt; "{what}")?;
+    for byte in block {
+        print!(rt; "{byte:02x}")?;
     }
-    io::write_all(1, b"\n");
+    println!(rt)
 }
 
 // One block through the cipher so many times, forwards or backwards.
@@ -35,20 +37,22 @@ fn once(t: &sm4::Table, rk: [u32; 32], block: [u8; 16], back: bool) -> [u8; 16]
     sm4::encrypt(t, rk, block)
 }
 
-fn main() {
+fn main(rt: HostRuntime) -> io::Result<()> {
     let t = sm4::table();
     let block = *b"\x01\x23\x45\x67\x89\xab\xcd\xef\xfe\xdc\xba\x98\x76\x54\x32\x10";
     let rk = sm4::schedule(&t, block);
     let one = often(&t, rk, block, 1, false);
-    line(b"enciphered once:               ", one);
+    line(&rt, "enciphered once:               ", one)?;
     line(
-        b"deciphered once:               ",
+        &rt,
+        "deciphered once:               ",
         often(&t, rk, one, 1, true),
-    );
+    )?;
     let million = often(&t, rk, block, 1000000, false);
-    line(b"enciphered a million times:    ", million);
+    line(&rt, "enciphered a million times:    ", million)?;
     line(
-        b"deciphered a million times:    ",
+        &rt,
+        "deciphered a million times:    ",
         often(&t, rk, million, 1000000, true),
-    );
+    )
 }
