@@ -1,4 +1,4 @@
-// The functions for C, each called as C calls it: a tag is made and checked; each block of a message is lost and restored, one that
+// The functions that C calls, each with what C hands it: a tag is made and checked; each block of a message is lost and restored, one that
 // is not there or not whole is refused, as are a tag that is not a full one and one that is a byte short, and a false tag restores
 // to a block that a check says yes to; a session is started, fed, tried too early, with too little room and with the finish of a
 // check, and finished; a struct whose phase is none of the three comes back as it came; a tag is checked in a session, tried with

@@ -1,6 +1,6 @@
 // slipprint on words of this program's own arguments, then slipcheck on the file that it was to make, under the same agreement. After
 // the arguments that checks.rt and certificates.rt take, eight make a row.
-ghost use Rattle.std.specs.Prelude.{◌≤◌, length};
+ghost use Rattle.std.specs.Prelude.{◌≤◌, length, IfOk};
 
 use crate::rows;
 use rows::Program;
@@ -10,6 +10,9 @@ use std::rt::Runtime;
 use std::{fs, io};
 
 const FIRST_ROW: usize = 535;
+
+// What a slip's file can have, and one byte more.
+const MOST: usize = 76;
 
 pub(crate) fn run(rt: &impl Runtime) -> io::Result<()> {
     rows::alone(rt, Program::Slipprint)?;
@@ -89,11 +92,29 @@ fn print_word(rt: &impl Runtime, at: usize) -> io::Result<()> {
 
 // Whether two slips' files have the same bytes.
 pub(crate) fn compare(rt: &impl Runtime, name: &str, other: &str) -> io::Result<()> {
-    let bytes = fs::read(rt, name)?;
-    let other_bytes = fs::read(rt, other)?;
+    let mut room = [0u8; MOST];
+    let n = read(rt, name, &mut room)?;
+    let mut other_room = [0u8; MOST];
+    let other_n = read(rt, other, &mut other_room)?;
     print!(rt; "== {name} and {other}")?;
-    if bytes.as_slice() == other_bytes.as_slice() {
+    if room[..n] == other_room[..other_n] {
         return println!(rt; " are the same");
     }
     println!(rt; " differ")
+}
+
+// Fills the room from a file, as far as the file goes, and gives how far.
+fn read(rt: &impl Runtime, name: &str, room: &mut [u8]) -> io::Result<usize>
+    ensures { IfOk result (λ n. n ≤ length room.new) }
+{
+    let mut file = fs::File::open(rt, name)?;
+    let mut n = 0;
+    for _ in 0..room.len() {
+        let got = file.read(&mut room[n..])?;
+        if got == 0 {
+            break;
+        }
+        n += got;
+    }
+    Ok(n)
 }

@@ -13,7 +13,8 @@
 //    32768   a read of the file
 //     4096   the file's name
 //     4096   its copy in the call that opens it
-//     1024   a number as it is printed
+//     8192   the reader of standard input, though nothing is kept in it
+//     1048   a number as it is printed, and its digits
 //      256   a chunk of the typed keys
 //      195   the algorithm, the padding and M, 65 each
 //       34   the tag's digits
@@ -22,7 +23,7 @@
 //       16   a word alone, or the word master, and one that is only counted
 //        1   for a read of no bytes
 //    -----
-//    42536   bytes in all
+//    50752   bytes in all
 ghost use Rattle.std.specs.Prelude.{◌≤◌};
 
 use crate::{arguments, certificate_file, first, typed_keys, words};

@@ -14,7 +14,8 @@
 //
 //     4096   the file's name
 //     4096   its copy in the call that opens it
-//     1024   a number as it is printed
+//     8192   the reader of standard input, though nothing is kept in it
+//     1048   a number as it is printed, and its digits
 //      896   the vectors: their rows 792, keys 32, a master 16, text 32, a tag 8 and its digits 16
 //      256   a chunk of the typed keys
 //      256   a read of the file
@@ -23,7 +24,7 @@
 //       33   the key bytes
 //       16   a word alone, or the word master, and one that is only counted
 //    -----
-//    11028   bytes in all
+//    19244   bytes in all
 #![tactic(auto)]
 
 mod arguments;

@@ -15,16 +15,19 @@ pub(crate) fn write(rt: &(impl Files + Print), name: &[u8], slip: &[u8]) -> bool
             return false;
         }
     };
-    if let Err(error) = file.write_all(slip) {
+    let written = file.write_all(slip);
+    if let Err(error) = written {
+        drop(file);
         take_back(rt, name, b"the file cannot be written", &error);
         return false;
     }
     // Closing it tells nothing here, so what the system has to tell of it is asked for before.
-    if let Err(error) = file.sync_all() {
+    let kept = file.sync_all();
+    drop(file);
+    if let Err(error) = kept {
         take_back(rt, name, b"the file cannot be closed", &error);
         return false;
     }
-    drop(file);
     if rt.write_all(b"printed\n").is_err() {
         let _ = remove(rt, name);
         return false;

@@ -12,7 +12,8 @@
 //
 //     4096   the file's name
 //     4096   its copy in the call that makes it or removes it
-//     1024   a number as it is printed
+//     8192   the reader of standard input, though nothing is kept in it
+//     1048   a number as it is printed, and its digits
 //      260   the amount, the algorithm, the padding and M, 65 each
 //      256   a chunk of the typed keys
 //       75   the slip
@@ -21,7 +22,7 @@
 //       11   the date
 //       16   a word alone, or the word master, and one that is only counted
 //    -----
-//     9900   bytes in all
+//    18116   bytes in all
 ghost use Rattle.std.specs.Prelude.{◌≤◌};
 
 use crate::{arguments, first, new_file, numbers, typed_keys, words};

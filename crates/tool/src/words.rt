@@ -22,7 +22,8 @@ const READ_ONLY: i32 = 30;
 
 pub(crate) const NAME_TOO_LONG: i32 = 36;
 
-pub(crate) const NO_TEXT: i32 = 84;
+// No number of the system's, which end at 4095.
+pub(crate) const NO_TEXT: i32 = 4096;
 
 // Nobody can be told that nothing can be told: what is not taken is let go.
 pub(crate) fn print(rt: &impl Print, text: &[u8]) {
