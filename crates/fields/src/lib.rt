@@ -128,11 +128,14 @@ fn end_of(field: &[u8]) -> usize
     end
 }
 
+// A field's label and the two bytes of its length.
+const HEAD: usize = 3;
+
 // The refusal of a field that its row gives, and 0 where there is none.
 fn field_refusal(row: Row, field: &[u8]) -> usize
     ensures { result ≡ first_of (field_faults row field.now) }
 {
-    if field.len() < 3 {
+    if field.len() < HEAD {
         return 20;
     }
     if byte_at(field, 0) != row.label {

@@ -6,6 +6,7 @@ use crate::rows;
 use rows::Program;
 use std::env::{Env, FillError};
 use std::fs::Files;
+use std::io::Read;
 use std::rt::Runtime;
 use std::{fs, io};
 

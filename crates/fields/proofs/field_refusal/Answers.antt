@@ -15,17 +15,17 @@ use Rattle.fields.proofs.field_refusal.Reads
 use Rattle.fields.proofs.field_refusal.Tie
 use Rattle.fields.proofs.field_refusal.Goals as goal
 
-pub returns-then-field-lt3 : goal.returns-then-field-lt3
+pub returns-then-field-lt-HEAD : goal.returns-then-field-lt-HEAD
 unfolding field_faults first_of
-returns-then-field-lt3 c = hit _ _ _ _ (lt-ltb _ 3 c.if-field-lt3.true) refl
+returns-then-field-lt-HEAD c = hit _ _ _ _ (lt-ltb _ 3 c.if-field-lt-HEAD.true) refl
 
 pub returns-then-byte_at-row : goal.returns-then-byte_at-row
 unfolding field_faults first_of
-returns-then-byte_at-row c = miss _ _ _ _ (le-ltb _ _ c.before.before.before.if-field-lt3.false) (hit _ _ _ _ (ap not (ne_eqb _ _ (λ e. c.if-byte_at-row.true (c.before.before.byte_at.ensures.0 ∙ e)))) refl)
+returns-then-byte_at-row c = miss _ _ _ _ (le-ltb _ _ c.before.before.before.if-field-lt-HEAD.false) (hit _ _ _ _ (ap not (ne_eqb _ _ (λ e. c.if-byte_at-row.true (c.before.before.byte_at.ensures.0 ∙ e)))) refl)
 
 past-label : (c : Lts.Else2 Tie.the-claims Reads.Pre Reads.Post) (r : ℕ) → let a = c.before.before.before.before.before.args in r ≡ first_of (drop 2 (field_faults a.row a.field.now)) → r ≡ first_of (field_faults a.row a.field.now)
 unfolding field_faults first_of
-past-label c r e = miss _ _ _ _ (le-ltb _ _ c.before.before.before.if-field-lt3.false) (miss _ _ _ _ (ap not (eq-eqb _ _ (sym c.before.before.byte_at.ensures.0 ∙ c.if-byte_at-row.false))) e)
+past-label c r e = miss _ _ _ _ (le-ltb _ _ c.before.before.before.if-field-lt-HEAD.false) (miss _ _ _ _ (ap not (eq-eqb _ _ (sym c.before.before.byte_at.ensures.0 ∙ c.if-byte_at-row.false))) e)
 
 -- the test is of the length that the field names
 length-judged : (c : Lts.After-outside Tie.the-claims Reads.Pre Reads.Post) → let far = c.before.before.before.before.before.before in let a = far.before.args in c.outside.result ≡ outside a.row.least a.row.most (length_of a.field.now)
