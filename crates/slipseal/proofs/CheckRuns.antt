@@ -1,4 +1,4 @@
--- The promises of a check in pieces through C: said of every answer that the contracts of the exported functions allow. A run of
+-- The promises of a check in pieces through C: said of every answer that the contracts of the functions for C allow. A run of
 -- an accepted start of a check, calls of any kind and a finish that is not refused ends with number 0, the definition's calls, yes
 -- 1 exactly where the tag given at the start is the definition's for the joined bits, and the struct closed and zero (`c-checked`,
 -- `c-yes-exactly`); `slipseal_check` in one call says the same (`c-same-as-one-check`). An accepted start leaves the session open

@@ -1,5 +1,5 @@
 -- The promises through C of single calls, of `slipseal_make` and of those of a session: said of every answer that the contracts of
--- the exported functions allow. What a call hands out or back stands for the session's own record (`out-in`, `handed-in`). Two
+-- the functions for C allow. What a call hands out or back stands for the session's own record (`out-in`, `handed-in`). Two
 -- calls of `slipseal_make` keep demand 3 (`c-make-differs`); a refused call hands back the very struct and leaves the room
 -- (`c-piece-back`, `c-finish-back`, `c-finish-check-back`, `c-make-untouched`); an accepted start or piece leaves the session open
 -- (`c-start-open`, `c-piece-open`). Runs of calls stand in Runs.antt, the start of a check and runs that check a tag in

@@ -1,4 +1,4 @@
--- Which numbers the exported functions can answer: 0 and those of each one's order, of every answer that the contracts allow. The
+-- Which numbers the functions for C can answer: 0 and those of each one's order, of every answer that the contracts allow. The
 -- retired 6 is not among them.
 -- Assumes nothing.
 use mathlib.Core.Path.{sym, subst}

@@ -1,4 +1,4 @@
--- The promises through C of runs of calls that make a tag: said of every answer that the contracts of the exported functions
+-- The promises through C of runs of calls that make a tag: said of every answer that the contracts of the functions for C
 -- allow. Single calls stand in EachCall.antt, runs that check a tag in CheckRuns.antt. A struct goes from call to call, and the
 -- record that it stands for goes the way of the session's own record (`run-inward`). So a run of calls of any kind ends with the
 -- definition's tag, calls and room for the joined bits of its accepted pieces (`c-joined`), and two such runs of full tags keep

@@ -1,4 +1,4 @@
--- No second answer satisfies any exported function's contract: each is one equation of structs, and of the lent room.
+-- No second answer satisfies the contract of any function for C: each is one equation of structs, and of the lent room.
 -- Assumes nothing.
 use mathlib.Core.Path.{refl}
 use Rattle.bits.specs.Once.{Unique}
