@@ -1,22 +1,23 @@
--- Laws of lists that the kit's library lacks: take and drop of two lists put together, of a part, and of equal elements.
+-- Laws of lists that std lacks: take and drop of two lists put together, of a part, and of equal elements.
 -- Assumes nothing.
-use mathlib.Core.Path.{◌≡◌, sym, ap, ◌∙◌}
-use mathlib.Core.List.{List, [], ◌∷◌, ◌++◌}
-use Prim.Native.Nat.{ℕ, zero, suc, ◌+◌, ◌-◌, ◌≤◌}
-use native.Mathlib.Nat.{zero-add, suc-add, sub-zero, zero-sub, suc-sub-suc}
-use native.Mathlib.Omega.{arith}
-use lib.ListN.{length, take, drop, replicate, length-drop, length-replicate, replicate-append-replicate}
-use lib.Seq.{take_at, drop_at, take_all, take-nil, drop-nil}
+use Rattle.std.proofs.Common.{◌≡◌, ℕ, zero, suc, ◌+◌, ◌-◌, ◌≤◌, min, List, [], ◌∷◌, ◌++◌, length, take, drop, replicate, length-take, sym, ap, ◌∙◌, arith}
+use Rattle.std.proofs.lemmas.List as std
+use native.Mathlib.Nat.{sub-zero, zero-sub, suc-sub-suc}
+use lib.Seq.{take-take, take-nil, drop-nil}
 
 module _ {A : Type 0} where
   pub drop-take : (k m : ℕ) (l : List A) → drop k (take (k + m) l) ≡ take m (drop k l)
-  drop-take zero m l = ap (λ (i : ℕ). take i l) (zero-add m)
-  drop-take (suc k) m [] = ap (λ (i : ℕ). drop (suc k) (take i [])) (suc-add k m) ∙ sym (take-nil m)
-  drop-take (suc k) m (x ∷ l) = ap (λ (i : ℕ). drop (suc k) (take i (x ∷ l))) (suc-add k m) ∙ drop-take k m l
+  drop-take = std.drop-take
 
   -- what is left from a place on, taken whole
   pub take_rest : (k : ℕ) (l : List A) → take (length l - k) (drop k l) ≡ drop k l
-  take_rest k l = take_all (length l - k) (drop k l) (omega (arith, length-drop k l))
+  take_rest k l = std.take_rest l k
+
+  -- of two beginnings the shorter
+  pub take-take_min : (n m : ℕ) (l : List A) → take (min n m) l ≡ take m (take n l)
+  take-take_min n m l =
+      let both : min (min n m) (length l) ≡ min m (length (take n l)) = omega (arith, length-take n l) in
+      sym (std.take_min (min n m) l) ∙ ap (λ (k : ℕ). take k l) both ∙ sym (take-take (min m (length (take n l))) n l (omega (arith, length-take n l))) ∙ std.take_min m (take n l)
 
   pub take-append : (k : ℕ) (x y : List A) → take k (x ++ y) ≡ take k x ++ take (k - length x) y
   take-append k [] y = rw (take-nil, sub-zero)
@@ -41,15 +42,8 @@ module _ {A : Type 0} where
 
 -- ---- equal elements
 
-module _ {A : Type 0} (a : A) (n k : ℕ) (h : n ≤ k) where
-  whole : k ≡ n + (k - n)
-  whole = omega arith
+pub take-replicate : {A : Type 0} (a : A) (n k : ℕ) → n ≤ k → take n (replicate k a) ≡ replicate n a
+take-replicate a n k = std.take-replicate n k a
 
-  replicate-cut : replicate k a ≡ replicate n a ++ replicate (k - n) a
-  replicate-cut = ap (λ (m : ℕ). replicate m a) whole ∙ sym (replicate-append-replicate n (k - n) a)
-
-  pub take-replicate : take n (replicate k a) ≡ replicate n a
-  take-replicate = ap (take n) replicate-cut ∙ take_at (replicate n a) (replicate (k - n) a) n (length-replicate n a)
-
-  pub drop-replicate : drop n (replicate k a) ≡ replicate (k - n) a
-  drop-replicate = ap (drop n) replicate-cut ∙ drop_at (replicate n a) (replicate (k - n) a) n (length-replicate n a)
+pub drop-replicate : {A : Type 0} (a : A) (n k : ℕ) → n ≤ k → drop n (replicate k a) ≡ replicate (k - n) a
+drop-replicate a n k h = std.drop-replicate n k a

@@ -1,18 +1,23 @@
 -- What shifts, masks and ors of numbers do to their bits, for every width. A shift by s is laws at a sum r + k of widths,
 -- carried to a width w by r + (w - r) ≡ w.
 -- Assumes nothing.
-use mathlib.Core.Path.{◌≡◌, sym, ap, ap₂, ◌∙◌, subst}
+use mathlib.Core.Path.{◌≡◌, refl, sym, ap, ap₂, ◌∙◌, subst}
+use mathlib.Core.Bool.{Bool, true, false}
 use mathlib.Core.List.{List, [], ◌∷◌, ◌++◌, flat_map, append-nil}
-use Prim.Native.Nat.{ℕ, ◌+◌, ◌-◌, ◌*◌, ◌/◌, ◌%◌, ◌^◌, ◌≤◌, ◌<◌}
-use native.Mathlib.Nat.{add-zero, add_comm, mul-mod_left}
+use Prim.Native.Nat.{ℕ, zero, suc, ◌+◌, ◌-◌, ◌*◌, ◌/◌, ◌%◌, ◌^◌, ◌≤◌, ◌<◌}
+use native.Mathlib.Nat.{add-zero, add_comm, mul-mod_left, mul-one, sub-zero, mul_assoc, add-mul, mod_self, mod-eq_of_lt, div-one, div-eq_of_lt, pow-suc}
 use native.Mathlib.Omega.{arith}
-use lib.Bits.{bit_or, bit_and, and_mask, or_shifted}
-use lib.Arith.{digits_lt}
-use lib.Pow.{shl-shr, shl_exact, pow-add, shr_lt, mod-pow-add}
-use lib.ListN.{length, take, drop, length-drop, take-append-drop}
-use lib.Seq.{take_all, drop-drop, take-append-le, drop-append-le, take-append-add}
+use borrow.Author.Tests.{ltb-true, ltb-false}
+use lib.Bits.{bit_or, or_shifted, or_self, or_zero_l}
+use lib.Dec.{ltb}
+use lib.Pow.{shl-shr, pow-add, shr_lt, mod-pow-add}
+use lib.ListN.{length, take, drop, get_or, drop_of_length-le}
+use lib.Seq.{take_all, take-suc}
+use Rattle.std.specs.Prelude.{if◌then◌else◌, slice_index}
+use Rattle.std.specs.Int.{byte_at, byte_worth, bytes_high_first, sum_through}
 use Rattle.bits.specs.Str.{Bits, bits_n, bytes_bits, rotl}
-use Rattle.bits.proofs.Numbers.{length-bits_n, bits_n-mod, bits_n-join, take-bits_n, drop-bits_n}
+use Rattle.bits.proofs.Numbers.{length-bits_n, bits_n-mod, bits_n-add, bits_n-join, take-bits_n, drop-bits_n}
+use Rattle.bits.proofs.Packed.{bytes_bits-append}
 
 -- ---- two numbers of w digits side by side, and the w digits that stand s further in
 
@@ -30,7 +35,7 @@ funnel-sum s k x y hy =
     ∙ bits_n-join k s (x % 2 ^ k) (y / 2 ^ k) (shr_lt s k hy)
     ∙ ap₂ (λ (u v : Bits). u ++ v) (bits_n-mod k x ∙ sym (drop-bits_n s k x)) (sym (take-bits_n s k y))
 
-funnel-shifts : (w s x y : ℕ) → s ≤ w → y < 2 ^ w
+pub funnel-shifts : (w s x y : ℕ) → s ≤ w → y < 2 ^ w
     → bits_n w (bit_or (x * 2 ^ s % 2 ^ w) (y / 2 ^ (w - s))) ≡ drop s (bits_n w x) ++ take s (bits_n w y)
 funnel-shifts w s x y hs hy =
     subst (λ (n : ℕ). y < 2 ^ n → bits_n n (bit_or (x * 2 ^ s % 2 ^ n) (y / 2 ^ (w - s))) ≡ drop s (bits_n n x) ++ take s (bits_n n y))
@@ -39,67 +44,84 @@ funnel-shifts w s x y hs hy =
     whole : (w s : ℕ) → s ≤ w → s + (w - s) ≡ w
     whole w s hs = omega arith
 
+-- the same with shifts that give 0 from w on; past w the second is all
+pub funnel-unbounded : (w s x y : ℕ) → 0 < w → y < 2 ^ w
+    → bits_n w (bit_or (if ltb s w then x * 2 ^ s % 2 ^ w else 0) (if ltb (w - s) w then y / 2 ^ (w - s) else 0)) ≡ drop s (bits_n w x) ++ take s (bits_n w y)
+funnel-unbounded w s x y some hy = go (ltb s w) (ltb (w - s) w) refl refl
+  where
+    go : (b c : Bool) → ltb s w ≡ b → ltb (w - s) w ≡ c
+        → bits_n w (bit_or (if b then x * 2 ^ s % 2 ^ w else 0) (if c then y / 2 ^ (w - s) else 0)) ≡ drop s (bits_n w x) ++ take s (bits_n w y)
+    go true true e f = funnel-shifts w s x y (omega (arith, ltb-true)) hy
+    go true false e f =
+        let whole : w ≡ w - s = omega (arith, ltb-true s w e, ltb-false (w - s) w f) in
+        ap (λ (n : ℕ). bits_n w (bit_or (x * 2 ^ s % 2 ^ w) n)) (sym (ap (λ (n : ℕ). y / 2 ^ n) (sym whole) ∙ div-eq_of_lt hy))
+        ∙ funnel-shifts w s x y (omega (arith, ltb-true s w e)) hy
+    go false true e f =
+        let past = ltb-false s w e in
+        let none : w - s ≡ 0 = omega arith in
+        ap (bits_n w) (or_zero_l (y / 2 ^ (w - s)) ∙ ap (λ (n : ℕ). y / 2 ^ n) none ∙ div-one y)
+        ∙ sym (ap₂ (λ (u v : Bits). u ++ v) (drop_of_length-le (bits_n w x) {i = s} (omega (arith, length-bits_n w x))) (take_all s (bits_n w y) (omega (arith, length-bits_n w y))))
+    go false false e f = absurd (omega (arith, ltb-false s w e, ltb-false (w - s) w f))
+
 -- a rotation is a number beside itself
-pub rotl-shifts : (w r x : ℕ) → r ≤ w → x < 2 ^ w → bits_n w (bit_or (x * 2 ^ r % 2 ^ w) (x / 2 ^ (w - r))) ≡ rotl r (bits_n w x)
+pub rotl-shifts : (w r x : ℕ) → r < w → x < 2 ^ w → bits_n w (bit_or (x * 2 ^ r % 2 ^ w) (x / 2 ^ ((w - r) % w))) ≡ rotl r (bits_n w x)
 unfolding rotl
-rotl-shifts w r x hr h = funnel-shifts w r x x hr h
+rotl-shifts w zero x hr h =
+    ap (bits_n w)
+    (ap₂ (λ (m n : ℕ). bit_or m (x / 2 ^ n)) (ap (λ (n : ℕ). n % 2 ^ w) (mul-one x) ∙ mod-eq_of_lt h) (ap (λ (n : ℕ). n % w) (sub-zero w) ∙ mod_self w)
+    ∙ ap (bit_or x) (div-one x) ∙ or_self x)
+    ∙ sym (append-nil (bits_n w x))
+rotl-shifts w (suc r) x hr h =
+    let some : w - suc r < w = omega arith in
+    ap (λ (n : ℕ). bits_n w (bit_or (x * 2 ^ suc r % 2 ^ w) (x / 2 ^ n))) (mod-eq_of_lt some) ∙ funnel-shifts w (suc r) x x (omega arith) h
 
--- ---- the k digits of w that s stand after, by a shift and a mask
+-- ---- the bytes of a number, the highest first
 
-bits_n-part : (j k m x : ℕ) → take k (drop j (bits_n (j + (k + m)) x)) ≡ bits_n k (x / 2 ^ m)
-bits_n-part j k m x = ap (take k) (drop-bits_n j (k + m) x) ∙ take-bits_n k m x
+bytes_pow : (k : ℕ) → 256 ^ k ≡ 2 ^ (8 * k)
+bytes_pow zero = refl
+bytes_pow (suc k) =
+    let more : 8 * suc k ≡ 8 * k + 8 = omega arith in
+    pow-suc 256 k ∙ ap (λ (n : ℕ). n * 256) (bytes_pow k) ∙ sym (ap (λ (n : ℕ). 2 ^ n) more ∙ pow-add 2 (8 * k) 8)
 
-pub part-mask : (w k s x : ℕ) → k + s ≤ w → bits_n k (bit_and (x / 2 ^ s) (2 ^ k - 1)) ≡ take k (drop (w - (k + s)) (bits_n w x))
-part-mask w k s x h =
-    ap (bits_n k) (and_mask (x / 2 ^ s) k) ∙ bits_n-mod k (x / 2 ^ s)
-    ∙ sym (bits_n-part (w - (k + s)) k s x)
-    ∙ ap (λ (n : ℕ). take k (drop (w - (k + s)) (bits_n n x))) (whole w (k + s) h)
-  where
-    whole : (w m : ℕ) → m ≤ w → w - m + m ≡ w
-    whole w m h = omega arith
+byte_at-bits : (k n : ℕ) → bits_n 8 (byte_at k n) ≡ bits_n 8 (n / 2 ^ (8 * k))
+byte_at-bits zero n = bits_n-mod 8 n ∙ ap (bits_n 8) (sym (div-one n))
+byte_at-bits (suc k) n = bits_n-mod 8 (n / 256 ^ suc k) ∙ ap (λ (m : ℕ). bits_n 8 (n / m)) (bytes_pow (suc k))
 
--- ---- a high part and k low digits, put together by a shift and an or
+pub high_first-bits : (k n : ℕ) → bytes_bits (bytes_high_first k n) ≡ bits_n (8 * k) n
+unfolding bytes_bits flat_map bits_n
+high_first-bits zero n = refl
+high_first-bits (suc k) n =
+    let more : 8 + 8 * k ≡ 8 * suc k = omega arith in
+    ap₂ (λ (u v : Bits). u ++ v) (byte_at-bits k n) (high_first-bits k n) ∙ sym (bits_n-add 8 (8 * k) n) ∙ ap (λ (m : ℕ). bits_n m n) more
 
-glue : (j k w a b : ℕ) → a < 2 ^ j → b < 2 ^ k → j + k ≤ w → bit_or (a * 2 ^ k % 2 ^ w) b ≡ a * 2 ^ k + b
-glue j k w a b ha hb hw = ap (λ (n : ℕ). bit_or n b) (shl_exact j k w ha hw) ∙ or_shifted a k b hb
+-- the number that k + 1 bytes are, as std adds it up
+abbrev high_sum : ℕ → List ℕ → ℕ → ℕ
+high_sum k xs n = sum_through (λ i. byte_worth (k - i) (slice_index xs i)) n
 
-pub glue-lt : (j k w a b : ℕ) → a < 2 ^ j → b < 2 ^ k → j + k ≤ w → bit_or (a * 2 ^ k % 2 ^ w) b < 2 ^ (j + k)
-glue-lt j k w a b ha hb hw = rw (glue j k w a b ha hb hw, pow-add 2 j k) (digits_lt ha hb)
+worth_up : (j x : ℕ) → byte_worth (suc j) x ≡ byte_worth j x * 256
+worth_up zero x = refl
+worth_up (suc j) x = ap (λ (m : ℕ). x * m) (pow-suc 256 (suc j)) ∙ sym (mul_assoc x (256 ^ suc j) 256)
 
-pub glue-bits : (j k w a b : ℕ) → a < 2 ^ j → b < 2 ^ k → j + k ≤ w → bits_n (j + k) (bit_or (a * 2 ^ k % 2 ^ w) b) ≡ bits_n j a ++ bits_n k b
-glue-bits j k w a b ha hb hw = ap (bits_n (j + k)) (glue j k w a b ha hb hw) ∙ bits_n-join j k a b hb
+high_sum-up : (k : ℕ) (xs : List ℕ) (n : ℕ) → n ≤ k → high_sum (suc k) xs n ≡ high_sum k xs n * 256
+high_sum-up k xs zero h = ap (λ (j : ℕ). byte_worth j (slice_index xs 0)) (sub-zero (suc k)) ∙ worth_up k (slice_index xs 0) ∙ ap (λ (j : ℕ). byte_worth j (slice_index xs 0) * 256) (sym (sub-zero k))
+high_sum-up k xs (suc n) h =
+    let here : suc k - suc n ≡ suc (k - suc n) = omega arith in
+    ap₂ (λ (s t : ℕ). s + t) (high_sum-up k xs n (omega arith)) (ap (λ (j : ℕ). byte_worth j (slice_index xs (suc n))) here ∙ worth_up (k - suc n) (slice_index xs (suc n)))
+    ∙ sym (add-mul (high_sum k xs n) (byte_worth (k - suc n) (slice_index xs (suc n))) 256)
 
--- ---- the four bytes of a word
-
-quarters : (w : Bits) → length w ≡ 32 → take 8 w ++ (take 8 (drop 8 w) ++ (take 8 (drop 16 w) ++ take 8 (drop 24 w))) ≡ w
-quarters w h =
-    ap (λ (v : Bits). take 8 w ++ (take 8 (drop 8 w) ++ (take 8 (drop 16 w) ++ v))) (take_all 8 (drop 24 w) last)
-    ∙ ap (λ (v : Bits). take 8 w ++ (take 8 (drop 8 w) ++ v)) (back 16)
-    ∙ ap (λ (v : Bits). take 8 w ++ v) (back 8)
-    ∙ take-append-drop 8 w
-  where
-    last : length (drop 24 w) ≤ 8
-    last = omega (arith, length-drop 24 w)
-
-    back : (n : ℕ) → take 8 (drop n w) ++ drop (n + 8) w ≡ drop n w
-    back n = ap (λ (v : Bits). take 8 (drop n w) ++ v) (sym (drop-drop 8 n w)) ∙ take-append-drop 8 (drop n w)
-
-pub bytes-of-word : (x a b c d : ℕ)
-    → bits_n 8 a ≡ take 8 (bits_n 32 x) → bits_n 8 b ≡ take 8 (drop 8 (bits_n 32 x))
-    → bits_n 8 c ≡ take 8 (drop 16 (bits_n 32 x)) → bits_n 8 d ≡ take 8 (drop 24 (bits_n 32 x))
-    → bytes_bits (a ∷ b ∷ c ∷ d ∷ []) ≡ bits_n 32 x
+high_sum-bits : (k : ℕ) (xs : List ℕ) → k < length xs → ((i : ℕ) → get_or xs i 0 < 256) → bits_n (8 * suc k) (high_sum k xs k) ≡ bytes_bits (take (suc k) xs)
 unfolding bytes_bits flat_map
-bytes-of-word x a b c d ha hb hc hd = rw (append-nil, ha, hb, hc, hd) (quarters (bits_n 32 x) (length-bits_n 32 x))
+high_sum-bits zero [] h f = absurd (omega arith)
+high_sum-bits zero (x ∷ xs) h f = sym (append-nil (bits_n 8 x))
+high_sum-bits (suc k) xs h f =
+    let more : 8 * suc (suc k) ≡ 8 * suc k + 8 = omega arith in
+    let last : suc k - suc k ≡ 0 = omega arith in
+    ap₂ (λ (j s : ℕ). bits_n (8 * suc (suc k)) (s + byte_worth j (slice_index xs (suc k)))) last (high_sum-up k xs k (omega arith))
+    ∙ ap (λ (j : ℕ). bits_n j (high_sum k xs k * 256 + slice_index xs (suc k))) more
+    ∙ bits_n-join (8 * suc k) 8 (high_sum k xs k) (slice_index xs (suc k)) (f (suc k))
+    ∙ ap₂ (λ (u v : Bits). u ++ v) (high_sum-bits k xs (omega arith) f) (sym (append-nil (bits_n 8 (slice_index xs (suc k)))))
+    ∙ sym (ap bytes_bits (take-suc xs (suc k) 0 h) ∙ bytes_bits-append (take (suc k) xs) (slice_index xs (suc k) ∷ []))
 
--- ---- two bytes side by side, and the eight bits that stand s further in
-
-pub funnel-bytes : (x y s : ℕ) (rest : List ℕ) → s ≤ 8 → take 8 (drop s (bytes_bits (x ∷ y ∷ rest))) ≡ drop s (bits_n 8 x) ++ take s (bits_n 8 y)
-unfolding bytes_bits flat_map
-funnel-bytes x y s rest h =
-    ap (take 8) (drop-append-le s (bits_n 8 x) (bits_n 8 y ++ bytes_bits rest) (omega (arith, length-bits_n 8 x)))
-    ∙ ap (λ (n : ℕ). take n (drop s (bits_n 8 x) ++ (bits_n 8 y ++ bytes_bits rest))) eight
-    ∙ take-append-add (drop s (bits_n 8 x)) (bits_n 8 y ++ bytes_bits rest) s
-    ∙ ap (λ (v : Bits). drop s (bits_n 8 x) ++ v) (take-append-le s (bits_n 8 y) (bytes_bits rest) (omega (arith, length-bits_n 8 y)))
-  where
-    eight : 8 ≡ length (drop s (bits_n 8 x)) + s
-    eight = omega (arith, length-drop s (bits_n 8 x), length-bits_n 8 x)
+pub from_high-bits : (k : ℕ) (xs : List ℕ) → length xs ≡ suc k → ((i : ℕ) → get_or xs i 0 < 256)
+    → bits_n (8 * suc k) (sum_through (λ i. byte_worth (k - i) (slice_index xs i)) k) ≡ bytes_bits xs
+from_high-bits k xs h f = high_sum-bits k xs (omega arith) f ∙ ap bytes_bits (take_all (suc k) xs (omega arith))

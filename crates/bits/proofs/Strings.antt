@@ -1,7 +1,7 @@
 -- The laws of xor, of equality, of rotations and of zeros: length, take, drop, append, and how each is undone.
 -- Assumes nothing.
 use mathlib.Core.Path.{◌≡◌, refl, sym, ap, ap₂, ◌∙◌}
-use mathlib.Core.Bool.{Bool, true, false, ◌&&◌, ◌||◌, not, xor, beq, false≢true}
+use mathlib.Core.Bool.{Bool, true, false, ◌&&◌, ◌||◌, not, xor, false≢true}
 use mathlib.Core.List.{[], ◌∷◌, ◌++◌, zip_with, append_assoc, append-nil}
 use Prim.Native.Nat.{ℕ, zero, suc, ◌+◌, ◌-◌, ◌/◌, ◌%◌, ◌^◌, ◌≤◌, ◌<◌, min}
 use native.Mathlib.Nat.{mod-lt, zero-div}
@@ -9,6 +9,7 @@ use native.Mathlib.Omega.{arith}
 use lib.Bits.{bit_xor, xor_shr, xor_mod}
 use lib.ListN.{length, take, drop, get_or, length-append, length-take, length-drop, length-replicate, replicate-append-replicate}
 use lib.Seq.{take-append-le, drop-append-le, take-add, drop-drop, take_all}
+use Rattle.std.specs.Cmp.{booleans_Decides}
 use Rattle.bits.specs.Choice.{pick}
 use Rattle.bits.specs.Str.{Bits, digit, bits_n, zeros, xor_b, same_b, rotl, rotr, filled, shiftl, double}
 use Rattle.bits.proofs.Lists.{take-replicate, drop-replicate}
@@ -140,16 +141,6 @@ bits_n-xor (suc k) a b = ap₂ (λ (c : Bool) (w : Bits). c ∷ w) (digit-xor k 
 
 -- ---- equality
 
-beq-refl : (b : Bool) → beq b b ≡ true
-beq-refl true = refl
-beq-refl false = refl
-
-beq-eq : (b c : Bool) → beq b c ≡ true → b ≡ c
-beq-eq true true e = refl
-beq-eq true false e = absurd (false≢true e)
-beq-eq false true e = absurd (false≢true e)
-beq-eq false false e = refl
-
 pub and_both : (a b : Bool) → a && b ≡ true → (a ≡ true) × (b ≡ true)
 and_both true b e = (refl, e)
 and_both false b e = absurd (false≢true e)
@@ -161,7 +152,7 @@ neither false b e = (refl, e)
 same_b-refl : (u : Bits) → same_b u u ≡ true
 unfolding same_b
 same_b-refl [] = refl
-same_b-refl (b ∷ u) = rw (beq-refl b) (same_b-refl u)
+same_b-refl (b ∷ u) = rw ((booleans_Decides b b).1 refl) (same_b-refl u)
 
 pub same_b-true : (u v : Bits) → u ≡ v → same_b u v ≡ true
 same_b-true u v e = ap (same_b u) (sym e) ∙ same_b-refl u
@@ -171,7 +162,7 @@ unfolding same_b
 same_b-eq [] [] e = refl
 same_b-eq [] (c ∷ v) e = absurd (false≢true e)
 same_b-eq (b ∷ u) [] e = absurd (false≢true e)
-same_b-eq (b ∷ u) (c ∷ v) e = let h = and_both _ _ e in ap₂ (λ (d : Bool) (w : Bits). d ∷ w) (beq-eq b c h.0) (same_b-eq u v h.1)
+same_b-eq (b ∷ u) (c ∷ v) e = let h = and_both _ _ e in ap₂ (λ (d : Bool) (w : Bits). d ∷ w) ((booleans_Decides b c).0 h.0) (same_b-eq u v h.1)
 
 pub same_b-false : (u v : Bits) → (u ≡ v → ⊥) → same_b u v ≡ false
 same_b-false u v n = go (same_b u v) refl
@@ -257,10 +248,6 @@ unfolding rotl
 rotl-xor_b k u v h =
     ap₂ (λ (x y : Bits). x ++ y) (drop-xor_b k u v) (take-xor_b k u v)
     ∙ sym (xor_b-append (drop k u) (take k u) (drop k v) (take k v) (omega (arith, length-drop k u, length-drop k v)))
-
-pub rotl-zero : (w : Bits) → rotl 0 w ≡ w
-unfolding rotl
-rotl-zero w = append-nil w
 
 -- two rotations are one
 pub rotl-rotl : (i j : ℕ) (w : Bits) → j + i ≤ length w → rotl i (rotl j w) ≡ rotl (j + i) w

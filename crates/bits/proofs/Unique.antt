@@ -2,6 +2,10 @@
 -- Assumes nothing.
 use mathlib.Core.Path.{refl}
 use borrow.Author.Rules.{rules}
+use denote.Param.Laws.{Laws, IsCopy}
+use denote.RattleType.{RattleType}
+use mir.Syntax.{Dict}
+use Rattle.std.specs.declared.clone.Clone.{Ghosts}
 use Rattle.bits.specs.Once.{Unique}
 use Rattle.bits.proofs.Same.{same, same_number, same_bytes}
 use Rattle.bits.proofs.rotl32.Kinds as rotl32-k
@@ -14,6 +18,8 @@ use Rattle.bits.proofs.funnel.Kinds as funnel-k
 use Rattle.bits.proofs.funnel.Reads as funnel
 use Rattle.bits.proofs.first.Kinds as first-k
 use Rattle.bits.proofs.first.Reads as first
+use Rattle.bits.proofs.first_fault.Kinds as first_fault-k
+use Rattle.bits.proofs.first_fault.Reads as first_fault
 
 pub rotl32-unique : Unique rotl32-k.ps rotl32-k.r rotl32.Asked rotl32.Learnt
 rotl32-unique κs a g p x y = (same_number 32 x.ok y.ok x.ensures y.ensures, refl)
@@ -29,3 +35,7 @@ funnel-unique κs a g p x y = (same_number 8 x.ok y.ok x.ensures y.ensures, refl
 
 pub first-unique : Unique first-k.ps first-k.r first.Asked first.Learnt
 first-unique κs a g p x y = (same x.ensures y.ensures, refl)
+
+pub first_fault-unique : (T : RattleType) (laws : Laws T) (copy : IsCopy T) (clones : Ghosts T.Denot) (dict : Dict)
+    → Unique (first_fault-k.ps T laws copy) (first_fault-k.r T laws copy) (first_fault.Asked T laws copy clones dict) (first_fault.Learnt T laws copy clones dict)
+first_fault-unique T laws copy clones dict κs a g p x y = (same x.ensures y.ensures, refl)

@@ -1,6 +1,6 @@
 -- A choice by a test, and the first of several faults in a given order: every ordered list of refusals is one of these.
 -- Assumes nothing.
-use Rattle.std.specs.Prelude.{Bool, true, false, ◌||◌, List, [], ◌∷◌, ℕ, eqb}
+use Rattle.std.specs.Prelude.{Bool, true, false, ◌||◌, List, [], ◌∷◌, ℕ, eqb, Result, Ok, Err}
 
 -- a where the test says yes, else b
 unfoldable pub pick {ℓ} : {A : Type ℓ} → Bool → A → A → A
@@ -27,3 +27,8 @@ unfoldable pub faults : List ℕ → List Bool → List Fault
 faults [] bs = []
 faults (n ∷ ns) [] = []
 faults (n ∷ ns) (b ∷ bs) = n given b ∷ faults ns bs
+
+-- the first test that says yes refuses with what stands beside it; where none does, nothing is refused
+unfoldable pub first_fault : {A : Type 0} → List (Bool × A) → Result (Unit {0}) A
+first_fault [] = Ok tt
+first_fault (t ∷ ts) = pick t.0 (Err t.1) (first_fault ts)

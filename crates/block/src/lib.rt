@@ -1,7 +1,6 @@
 // Sixteen bytes by value, of which a block of n bits takes the first n. One function moves bits, `window`; joining, truncation,
-// turns and doubling are calls of it, but where whole bytes are joined, none is moved by bits. Every function answers every
-// argument but `xor_part`, `after`, `put_part` and `put`, whose bytes must be there or have room, and five that take a width n,
-// which sixteen bytes must hold.
+// turns and doubling are calls of it. Every function answers every argument but `xor_part`, `after`, `put_part` and `put`, whose
+// bytes must be there or have room, and five that take a width n, which sixteen bytes must hold.
 #![tactic(auto)]
 
 ghost use Rattle.std.specs.Prelude.{◌≡◌, ◌++◌, ◌+◌, ◌-◌, ◌≤◌, ◌<◌, length, take, drop};
@@ -14,10 +13,8 @@ pub fn xor_part(part: &[u8], k: usize, b: [u8; 16]) -> [u8; 16]
     ensures { bytes_bits result ≡ filled 128 (xor_b (bytes_bits (take k part.now)) (bytes_bits b)) }
 {
     let mut r = [0u8; 16];
-    let mut i: usize = 0;
-    while i < k {
-        r[i] = part[i] ^ b[i];
-        i += 1;
+    for (i, x) in part[..k].iter().enumerate() {
+        r[i] = x ^ b[i];
     }
     r
 }
@@ -34,8 +31,8 @@ pub fn pair(a: [u8; 16], b: [u8; 16]) -> [u8; 32]
     ensures { result ≡ a ++ b }
 {
     let mut r = [0u8; 32];
-    put(b, 16, &mut r[16..]);
-    put(a, 16, &mut r);
+    r[..16].copy_from_slice(&a);
+    r[16..].copy_from_slice(&b);
     r
 }
 
@@ -43,19 +40,9 @@ pub fn pair(a: [u8; 16], b: [u8; 16]) -> [u8; 32]
 pub fn window(a: [u8; 16], b: [u8; 16], s: usize) -> [u8; 16]
     ensures { bytes_bits result ≡ drop s (bytes_bits a) ++ take s (bytes_bits b) }
 {
-    if 128 <= s {
-        return b;
-    }
-    let both = pair(a, b);
-    let q = s / 8;
-    let p = (s % 8) as u32;
-    let mut r = [0u8; 16];
-    let mut i: usize = 0;
-    while i < 16 {
-        r[i] = bits::funnel(both[q + i], both[q + i + 1], p);
-        i += 1;
-    }
-    r
+    let s = s.min(128) as u32;
+    (u128::from_be_bytes(a).unbounded_shl(s)
+        | u128::from_be_bytes(b).unbounded_shr(128 - s)).to_be_bytes()
 }
 
 // A block with the bytes of a part in the place of its own after the first q.
@@ -64,26 +51,25 @@ pub fn after(a: [u8; 16], q: usize, part: &[u8]) -> [u8; 16]
     ensures { result ≡ take q a ++ part.now ++ drop (q + length part.now) a }
 {
     let mut r = a;
-    let mut i: usize = 0;
-    while i < part.len() {
-        r[q + i] = part[i];
-        i += 1;
-    }
+    r[q..q + part.len()].copy_from_slice(part);
     r
 }
 
-// The first n bits of a, and then b from its start; a itself where n is 128 or more.
+// The first n bits of a, and then b from its start. A call of its own: within `join` it makes the compiler take every block apart
+// into bytes, also one that stays whole, and a tag of 16 bytes takes 1.04 times as long.
+#[inline(never)]
+fn joined(a: [u8; 16], n: usize, b: [u8; 16]) -> [u8; 16]
+    requires { n ≤ 128 }
+    ensures { bytes_bits result ≡ take n (bytes_bits a) ++ take (128 - n) (bytes_bits b) }
+{
+    window(window([0u8; 16], a, n), b, 128 - n)
+}
+
+// The same; a itself where n is 128 or more.
 pub fn join(a: [u8; 16], n: usize, b: [u8; 16]) -> [u8; 16]
     ensures { bytes_bits result ≡ take n (bytes_bits a) ++ take (128 - n) (bytes_bits b) }
 {
-    if 128 <= n {
-        return a;
-    }
-    if n % 8 == 0 {
-        let q = n / 8;
-        return after(a, q, &b[..16 - q]);
-    }
-    window(window([0u8; 16], a, n), b, 128 - n)
+    if 128 <= n { a } else { joined(a, n, b) }
 }
 
 // The leftmost m bits, and zeros after them.
@@ -97,10 +83,7 @@ pub fn leftmost(b: [u8; 16], m: usize) -> [u8; 16]
 pub fn leftmost_of(b: [u8; 16], n: usize, m: usize) -> [u8; 16]
     ensures { bytes_bits result ≡ filled 128 (leftmost m (take n (bytes_bits b))) }
 {
-    if n < m {
-        return leftmost(b, n);
-    }
-    leftmost(b, m)
+    leftmost(b, n.min(m))
 }
 
 // The rightmost m of the first n bits moved to the left, and zeros after them.
@@ -108,10 +91,7 @@ pub fn rightmost_of(b: [u8; 16], n: usize, m: usize) -> [u8; 16]
     requires { n ≤ 128 }
     ensures { bytes_bits result ≡ filled 128 (rightmost m (take n (bytes_bits b))) }
 {
-    if n <= m {
-        return leftmost(b, n);
-    }
-    window(leftmost(b, n), [0u8; 16], n - m)
+    window(leftmost(b, n), [0u8; 16], n.saturating_sub(m))
 }
 
 // The first n bits rotated left by one, and zeros after them: where they are repeated, the first stands after the last.
@@ -136,9 +116,7 @@ pub fn number(x: u32, n: usize) -> [u8; 16]
     requires { n ≤ 128 }
     ensures { bytes_bits result ≡ filled 128 (bits_n n x) }
 {
-    let b = bits::bytes(x);
-    let all = [0, 0, 0, 0, 0, 0, 0, 0, 0, 0, 0, 0, b[0], b[1], b[2], b[3]];
-    rightmost_of(all, 128, n)
+    rightmost_of(u128::from(x).to_be_bytes(), 128, n)
 }
 
 // The first n bits doubled, and zeros after them: shifted left by one, and the number p put in by xor where the bit shifted out was 1.
@@ -147,10 +125,7 @@ pub fn double(b: [u8; 16], n: usize, p: u32) -> [u8; 16]
     ensures { bytes_bits result ≡ filled 128 (double p (take n (bytes_bits b))) }
 {
     let w = window(leftmost(b, n), [0u8; 16], 1);
-    if b[0] < 128 {
-        return w;
-    }
-    xor(w, number(p, n))
+    if b[0] < 128 { w } else { xor(w, number(p, n)) }
 }
 
 // Every second group of four bits complemented, beginning with the first.
@@ -164,26 +139,14 @@ pub fn every_second(b: [u8; 16]) -> [u8; 16]
 pub fn front(s: &[u8]) -> [u8; 16]
     ensures { result ≡ front s.now }
 {
-    if s.len() < 16 {
-        return after([0u8; 16], 0, s);
-    }
-    after([0u8; 16], 0, &s[..16])
+    after([0u8; 16], 0, &s[..s.len().min(16)])
 }
 
-// Whether two parts hold the same bytes, and equally many. Where they are equally long every byte is looked at.
+// Whether two parts hold the same bytes, and equally many. Where they are equally long every byte is looked at, which `==` does not.
 pub fn equal_bytes(a: &[u8], b: &[u8]) -> bool
     ensures { result ≡ same_b (bytes_bits a.now) (bytes_bits b.now) }
 {
-    if a.len() != b.len() {
-        return false;
-    }
-    let mut differences: u8 = 0;
-    let mut i: usize = 0;
-    while i < a.len() {
-        differences = differences | (a[i] ^ b[i]);
-        i += 1;
-    }
-    differences == 0
+    a.len() == b.len() && a.iter().zip(b).fold(0, |all, (x, y)| all | (x ^ y)) == 0
 }
 
 // Whether two blocks are the same.
@@ -198,11 +161,7 @@ pub fn put_part(part: &[u8], room: &mut [u8])
     requires { length part.now ≤ length room.old }
     ensures { room.new ≡ part.now ++ drop (length part.now) room.old }
 {
-    let mut i: usize = 0;
-    while i < part.len() {
-        room[i] = part[i];
-        i += 1;
-    }
+    room[..part.len()].copy_from_slice(part);
 }
 
 // Puts the first n bytes of a block into the room.

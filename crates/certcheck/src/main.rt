@@ -2,5 +2,5 @@
 #![tactic(auto)]
 
 fn main(rt: HostRuntime) {
-    tool::run_certificate(&rt);
+    tool::run::<tool::Certcheck>(&rt);
 }

@@ -1,5 +1,7 @@
 // The heart of every tag, shared by one call and sessions and by all ciphers: a chain is begun, fed lent slices of bits, and closed.
 // In `back` it is gone through from both ends, to a block that is lost.
+// An algorithm and a padding are numbers here too, as the standard names them: every number is answered, in a record that nobody made
+// too, and settings are judged elsewhere. The functions are free, over a lent `Keyed`: docs/PROMISES.md names them so.
 // A cipher is its number, and a block of its n bits stands in the first n of sixteen bytes: what stands after them is not looked at,
 // and what a public function gives out has zeros there. Round keys and the cipher's table are passed through, so that nothing is
 // computed twice within a call; the wide table is taken by `through` alone. Each block of a lent message is passed on as the part
@@ -14,9 +16,13 @@ ghost use Rattle.cipher.specs.Ciphers.{cipher_at, table_at, round_keys_at, enc_a
 ghost use Rattle.mac.specs.Padding.{method_at, suffix, block_count, complete};
 ghost use Rattle.mac.specs.Algorithm.{algorithm_at, row, Keys, step};
 ghost use Rattle.mac.specs.Session.{absorb, finish, opened};
-ghost use Rattle.chain.specs.Chain.{rounds_bits, rounds_of, key_blocks, Expanded, Each, width_of, steps_of, held_bits, begun_at, state_of, hold_of, walked, last_state, mark_of};
+ghost use Rattle.chain.specs.Rounds.{rounds_bits, rounds_of, key_blocks};
+ghost use Rattle.chain.specs.Chain.{Expanded, Each, width_of, steps_of, held_bits, begun_at, state_of, hold_of, walked, last_state, mark_of};
 
 pub mod back;
+mod keyed;
+
+pub use keyed::Keyed;
 
 // The round keys of K, K' and K''.
 #[derive(Clone, Copy)]
@@ -27,45 +33,33 @@ pub struct Rounds {
 }
 
 // A chain value, and the block that waits.
-#[derive(Clone, Copy)]
+#[derive(Clone, Copy, PartialEq, Eq)]
 pub struct Hold {
     pub value: [u8; 16],
     pub held: [u8; 16],
-}
-
-// What a chain works under: the cipher's number, the settings and the round keys of the keys that they use.
-#[derive(Clone, Copy)]
-pub struct Keyed {
-    pub cipher: usize,
-    pub settings: settings::Settings,
-    pub rounds: Rounds,
 }
 
 // ---- round keys
 
 // A key's round keys where they are used, else zeros.
 fn expanded_where(t: &cipher::Table, cipher: usize, on: bool, key: [u8; 16]) -> [u32; 32]
-    requires { t.now ≡ table_at cipher }
     ensures { words result ≡ pick on (round_keys_at cipher (take (cipher_at cipher).key_width (bytes_bits key))) (words (replicate 32 0)) }
 {
     if on {
-        return cipher::schedule(t, cipher, key);
+        cipher::schedule(t, cipher, key)
+    } else {
+        [0u32; 32]
     }
-    [0u32; 32]
 }
 
 // The round keys of the keys that an algorithm uses.
 pub fn expand(t: &cipher::Table, cipher: usize, algorithm: usize, keys: keys::KeyBlocks) -> Rounds
-    requires { t.now ≡ table_at cipher }
     ensures { rounds_bits result ≡ rounds_of cipher algorithm (key_blocks cipher keys) }
 {
     let row = mac::row_of(algorithm);
-    let first_key = keys.first;
-    let second_key = keys.second;
-    let third_key = keys.third;
-    let first = cipher::schedule(t, cipher, first_key);
-    let second = expanded_where(t, cipher, row.two, second_key);
-    let third = expanded_where(t, cipher, row.third, third_key);
+    let first = cipher::schedule(t, cipher, keys.first);
+    let second = expanded_where(t, cipher, row.two, keys.second);
+    let third = expanded_where(t, cipher, row.third, keys.third);
     Rounds {
         first,
         second,
@@ -76,19 +70,17 @@ pub fn expand(t: &cipher::Table, cipher: usize, algorithm: usize, keys: keys::Ke
 // ---- one block
 
 // Enciphered: the first bits of the block, in the first bits of the answer.
-fn enc(t: &cipher::Table, cipher: usize, rk: [u32; 32], b: [u8; 16]) -> [u8; 16]
-    requires { t.now ≡ table_at cipher }
-    ensures { take (cipher_at cipher).n (bytes_bits result) ≡ enc_at cipher (words rk) (take (cipher_at cipher).n (bytes_bits b)) }
+fn enc(k: &Keyed, rk: [u32; 32], b: [u8; 16]) -> [u8; 16]
+    ensures { take (width_of k.now) (bytes_bits result) ≡ enc_at k.now.cipher (words rk) (take (width_of k.now) (bytes_bits b)) }
 {
-    cipher::encrypt(t, cipher, rk, b)
+    cipher::encrypt(k.table, k.cipher, rk, b)
 }
 
 // Deciphered.
-fn dec(t: &cipher::Table, cipher: usize, rk: [u32; 32], b: [u8; 16]) -> [u8; 16]
-    requires { t.now ≡ table_at cipher }
-    ensures { take (cipher_at cipher).n (bytes_bits result) ≡ dec_at cipher (words rk) (take (cipher_at cipher).n (bytes_bits b)) }
+fn dec(k: &Keyed, rk: [u32; 32], b: [u8; 16]) -> [u8; 16]
+    ensures { take (width_of k.now) (bytes_bits result) ≡ dec_at k.now.cipher (words rk) (take (width_of k.now) (bytes_bits b)) }
 {
-    cipher::decrypt(t, cipher, rk, b)
+    cipher::decrypt(k.table, k.cipher, rk, b)
 }
 
 // ---- blocks that are not the last
@@ -97,24 +89,20 @@ fn dec(t: &cipher::Table, cipher: usize, rk: [u32; 32], b: [u8; 16]) -> [u8; 16]
 fn twice(algorithm: usize, begun: bool) -> bool
     ensures { result ≡ (row (algorithm_at algorithm)).third && not begun }
 {
-    let row = mac::row_of(algorithm);
-    if row.third {
-        return !begun;
-    }
-    false
+    mac::row_of(algorithm).third && !begun
 }
 
 // A block that is not the last goes through, from where it lies.
-fn advance(t: &cipher::Table, k: Keyed, begun: bool, h: [u8; 16], part: &[u8]) -> [u8; 16]
-    requires { (t.now ≡ table_at k.cipher) × (width_of k ≤ 8 * length part.now) }
-    ensures { Each k (λ K. take (width_of k) (bytes_bits result) ≡ (step (steps_of k K) begun (xor_b (take (width_of k) (bytes_bits part.now)) (take (width_of k) (bytes_bits h)))).out) }
+fn advance(k: &Keyed, begun: bool, h: [u8; 16], part: &[u8]) -> [u8; 16]
+    requires { width_of k.now ≤ 8 * length part.now }
+    ensures { Each k.now (λ K. take (width_of k.now) (bytes_bits result) ≡ (step (steps_of k.now K) begun (xor_b (take (width_of k.now) (bytes_bits part.now)) (take (width_of k.now) (bytes_bits h)))).out) }
 {
     let first = k.rounds.first;
     let size = cipher::width(k.cipher) / 8;
-    let x = enc(t, k.cipher, first, block::xor_part(part, size, h));
+    let x = enc(k, first, block::xor_part(part, size, h));
     if twice(k.settings.algorithm, begun) {
         let third = k.rounds.third;
-        return enc(t, k.cipher, third, x);
+        return enc(k, third, x);
     }
     x
 }
@@ -124,40 +112,34 @@ fn next_block(backwards: bool, blocks: usize, left: usize) -> usize
     requires { (0 < left) × (left ≤ blocks) }
     ensures { result ≡ pick backwards (left - 1) (blocks - left) }
 {
-    if backwards {
-        return left - 1;
-    }
-    blocks - left
+    if backwards { left - 1 } else { blocks - left }
 }
 
 // Whole blocks, each worked where it lies, from the first to the last or backwards. The wide table is taken where there are any. Both
-// ways are one loop, so that what it calls stands in it alone, and the compiler puts it there.
+// ways are one loop, so that what it calls stands in it alone, and the compiler puts it there; by index, since they go either way.
 fn through(
-    t: &cipher::Table,
-    cipher: usize,
+    k: &Keyed,
     rk: [u32; 32],
     start: [u8; 16],
     bytes: &[u8],
     blocks: usize,
     backwards: bool,
 ) -> [u8; 16]
-    requires { (t.now ≡ table_at cipher) × (blocks * (cipher_at cipher).n ≤ 8 * length bytes.now) }
-    ensures { take (cipher_at cipher).n (bytes_bits result) ≡ walked backwards (cipher_at cipher).n (enc_at cipher (words rk)) blocks (take (cipher_at cipher).n (bytes_bits start)) (bytes_bits bytes.now) }
+    requires { blocks * width_of k.now ≤ 8 * length bytes.now }
+    ensures { take (width_of k.now) (bytes_bits result) ≡ walked backwards (width_of k.now) (enc_at k.now.cipher (words rk)) blocks (take (width_of k.now) (bytes_bits start)) (bytes_bits bytes.now) }
 {
     if blocks == 0 {
         return start;
     }
-    let w = cipher::wide(cipher);
-    let size = cipher::width(cipher) / 8;
-    let mut h = cipher::load(cipher, start);
-    let mut left = blocks;
-    while 0 < left {
-        let at = next_block(backwards, blocks, left) * size;
-        let next = cipher::absorb(t, &w, cipher, rk, h, &bytes[at..at + size]);
+    let w = cipher::wide(k.cipher);
+    let size = cipher::width(k.cipher) / 8;
+    let mut h = cipher::load(k.cipher, start);
+    for i in 0..blocks {
+        let at = next_block(backwards, blocks, blocks - i) * size;
+        let next = cipher::absorb(k.table, &w, k.cipher, rk, h, &bytes[at..at + size]);
         h = next;
-        left -= 1;
     }
-    cipher::store(cipher, h)
+    cipher::store(k.cipher, h)
 }
 
 // How many bits wait after so many in all: a full block waits too.
@@ -171,36 +153,26 @@ pub fn held_bits(cipher: usize, total: usize) -> usize
     (total - 1) % n + 1
 }
 
+#[tactic(auto, unfolding(crate::specs::Chain::begun_at))]
 fn begun_at(cipher: usize, padding: usize, total: usize) -> bool
     ensures { result ≡ begun_at (cipher_at cipher).n padding total }
 {
-    let n = cipher::width(cipher);
-    if padding == 3 {
-        return true;
-    }
-    n < total
+    padding == 3 || cipher::width(cipher) < total
 }
 
 // The first block goes through: the part itself where nothing waits, else the block that waits with the part after its bits.
-fn first_through(
-    t: &cipher::Table,
-    k: Keyed,
-    hold: Hold,
-    total: usize,
-    waits: usize,
-    part: &[u8],
-) -> [u8; 16]
-    requires { (t.now ≡ table_at k.cipher) × (waits + 8 * length part.now ≡ width_of k) }
-    ensures { Each k (λ K. take (width_of k) (bytes_bits result) ≡ (step (steps_of k K) (begun_at (width_of k) k.settings.padding total) (xor_b (take waits (bytes_bits hold.held) ++ bytes_bits part.now) (take (width_of k) (bytes_bits hold.value)))).out) }
+fn first_through(k: &Keyed, hold: Hold, total: usize, waits: usize, part: &[u8]) -> [u8; 16]
+    requires { (waits + 8 * length part.now ≡ width_of k.now) }
+    ensures { Each k.now (λ K. take (width_of k.now) (bytes_bits result) ≡ (step (steps_of k.now K) (begun_at (width_of k.now) k.now.settings.padding total) (xor_b (take waits (bytes_bits hold.held) ++ bytes_bits part.now) (take (width_of k.now) (bytes_bits hold.value)))).out) }
 {
     let value = hold.value;
     let held = hold.held;
     let begun = begun_at(k.cipher, k.settings.padding, total);
     if waits == 0 {
-        return advance(t, k, begun, value, part);
+        return advance(k, begun, value, part);
     }
     let b = block::after(held, waits / 8, part);
-    advance(t, k, begun, value, &b)
+    advance(k, begun, value, &b)
 }
 
 // Bits after others that wait, then zeros: the part that they are is copied, for it waits in a hold, or the padding stands after it.
@@ -214,16 +186,9 @@ fn waiting_block(held: [u8; 16], waits: usize, bytes: &[u8], bits: usize) -> [u8
 }
 
 // Bits come in after total others: each block goes through that a bit stands after, and the rest waits.
-pub fn feed(
-    t: &cipher::Table,
-    k: Keyed,
-    hold: Hold,
-    total: usize,
-    bytes: &[u8],
-    bits: usize,
-) -> Hold
-    requires { (t.now ≡ table_at k.cipher) × Expanded k × (bits ≤ 8 * length bytes.now) × (0 < bits → total % 8 ≡ 0) }
-    ensures { Each k (λ K. result ≡ hold_of (absorb (width_of k) (steps_of k K) (state_of k total hold) (take bits (bytes_bits bytes.now)))) }
+pub fn feed(k: &Keyed, hold: Hold, total: usize, bytes: &[u8], bits: usize) -> Hold
+    requires { Expanded k.now × (bits ≤ 8 * length bytes.now) × (0 < bits → total % 8 ≡ 0) }
+    ensures { Each k.now (λ K. result ≡ hold_of (absorb (width_of k.now) (steps_of k.now K) (state_of k.now total hold) (take bits (bytes_bits bytes.now)))) }
 {
     let value = hold.value;
     let held = hold.held;
@@ -237,13 +202,13 @@ pub fn feed(
         };
     }
     let edge = space / 8;
-    let h = first_through(t, k, hold, total, waits, &bytes[..edge]);
+    let h = first_through(k, hold, total, waits, &bytes[..edge]);
     let rest = &bytes[edge..];
     let beyond = bits - space;
     let blocks = (beyond - 1) / n;
     let done = blocks * n;
     let first = k.rounds.first;
-    let c = through(t, k.cipher, first, h, rest, blocks, false);
+    let c = through(k, first, h, rest, blocks, false);
     Hold {
         value: block::leftmost(c, n),
         held: waiting_block([0u8; 16], 0, &rest[done / 8..], beyond - done),
@@ -253,28 +218,27 @@ pub fn feed(
 // ---- the beginning
 
 // H0.
-fn start_value(t: &cipher::Table, k: Keyed) -> [u8; 16]
-    requires { t.now ≡ table_at k.cipher }
-    ensures { Each k (λ K. take (width_of k) (bytes_bits result) ≡ (steps_of k K).start) }
+fn start_value(k: &Keyed) -> [u8; 16]
+    ensures { Each k.now (λ K. take (width_of k.now) (bytes_bits result) ≡ (steps_of k.now K).start) }
 {
     if k.settings.algorithm == 8 {
         let first = k.rounds.first;
-        return enc(t, k.cipher, first, [0u8; 16]);
+        return enc(k, first, [0u8; 16]);
     }
     [0u8; 16]
 }
 
 // Where the message begins: under padding 3 the block L has gone through, and nothing waits.
-pub fn begin(t: &cipher::Table, k: Keyed, declared: u32) -> Hold
-    requires { (t.now ≡ table_at k.cipher) × Expanded k }
-    ensures { Each k (λ K. result ≡ hold_of (opened (cipher_at k.cipher) (algorithm_at k.settings.algorithm) (method_at k.settings.padding) K declared)) }
+pub fn begin(k: &Keyed, declared: u32) -> Hold
+    requires { Expanded k.now }
+    ensures { Each k.now (λ K. result ≡ hold_of (opened (cipher_at k.now.cipher) (algorithm_at k.now.settings.algorithm) (method_at k.now.settings.padding) K declared)) }
 {
     let n = cipher::width(k.cipher);
-    let h = start_value(t, k);
+    let h = start_value(k);
     if k.settings.padding == 3 {
         let b = block::number(declared, n);
         return Hold {
-            value: block::leftmost(advance(t, k, false, h, &b), n),
+            value: block::leftmost(advance(k, false, h, &b), n),
             held: [0u8; 16],
         };
     }
@@ -294,9 +258,10 @@ fn mask(cipher: usize, s: [u8; 16], complete: bool) -> [u8; 16]
     let p = cipher::poly(cipher);
     let k1 = block::double(s, n, p);
     if complete {
-        return k1;
+        k1
+    } else {
+        block::double(k1, n, p)
     }
-    block::double(k1, n, p)
 }
 
 // The turn of algorithm 8.
@@ -305,46 +270,34 @@ fn turned(cipher: usize, z: [u8; 16], complete: bool) -> [u8; 16]
 {
     let n = cipher::width(cipher);
     if complete {
-        return block::turn_right(z, n);
+        block::turn_right(z, n)
+    } else {
+        block::turn_left(z, n)
     }
-    block::turn_left(z, n)
 }
 
 // The last step of an algorithm.
-fn last(t: &cipher::Table, k: Keyed, complete: bool, z: [u8; 16]) -> [u8; 16]
-    requires { t.now ≡ table_at k.cipher }
-    ensures { Each k (λ K. take (width_of k) (bytes_bits result) ≡ ((steps_of k K).last complete (take (width_of k) (bytes_bits z))).out) }
+fn last(k: &Keyed, complete: bool, z: [u8; 16]) -> [u8; 16]
+    ensures { Each k.now (λ K. take (width_of k.now) (bytes_bits result) ≡ ((steps_of k.now K).last complete (take (width_of k.now) (bytes_bits z))).out) }
 {
-    let cipher = k.cipher;
-    let algorithm = k.settings.algorithm;
     let first = k.rounds.first;
     let second = k.rounds.second;
-    if algorithm == 5 {
-        let s = enc(t, cipher, first, [0u8; 16]);
-        return enc(t, cipher, first, block::xor(z, mask(cipher, s, complete)));
+    match k.settings.algorithm {
+        2 | 4 => enc(k, second, enc(k, first, z)),
+        3 => enc(k, first, dec(k, second, enc(k, first, z))),
+        5 => {
+            let s = enc(k, first, [0u8; 16]);
+            enc(k, first, block::xor(z, mask(k.cipher, s, complete)))
+        }
+        6 => enc(k, second, z),
+        8 => enc(k, first, turned(k.cipher, z, complete)),
+        _ => enc(k, first, z),
     }
-    if algorithm == 6 {
-        return enc(t, cipher, second, z);
-    }
-    if algorithm == 8 {
-        return enc(t, cipher, first, turned(cipher, z, complete));
-    }
-    let g = enc(t, cipher, first, z);
-    if algorithm == 2 {
-        return enc(t, cipher, second, g);
-    }
-    if algorithm == 3 {
-        return enc(t, cipher, first, dec(t, cipher, second, g));
-    }
-    if algorithm == 4 {
-        return enc(t, cipher, second, g);
-    }
-    g
 }
 
 // The tag's m bits of G, and zeros after them.
-fn cut(k: Keyed, complete: bool, g: [u8; 16]) -> [u8; 16]
-    ensures { (K : Keys) → bytes_bits result ≡ filled_block ((steps_of k K).cut complete k.settings.m (take (width_of k) (bytes_bits g))) }
+fn cut(k: &Keyed, complete: bool, g: [u8; 16]) -> [u8; 16]
+    ensures { (K : Keys) → bytes_bits result ≡ filled_block ((steps_of k.now K).cut complete k.now.settings.m (take (width_of k.now) (bytes_bits g))) }
 {
     let n = cipher::width(k.cipher);
     let m = k.settings.m;
@@ -358,40 +311,33 @@ fn cut(k: Keyed, complete: bool, g: [u8; 16]) -> [u8; 16]
 }
 
 // The tag, where b is the last block and h the chain value before it.
-fn ended(t: &cipher::Table, k: Keyed, complete: bool, h: [u8; 16], b: [u8; 16]) -> [u8; 16]
-    requires { t.now ≡ table_at k.cipher }
-    ensures { Each k (λ K. bytes_bits result ≡ filled_block (finish (steps_of k K) complete k.settings.m (last_state (width_of k) h b)).out) }
+fn ended(k: &Keyed, complete: bool, h: [u8; 16], b: [u8; 16]) -> [u8; 16]
+    ensures { Each k.now (λ K. bytes_bits result ≡ filled_block (finish (steps_of k.now K) complete k.now.settings.m (last_state (width_of k.now) h b)).out) }
 {
-    cut(k, complete, last(t, k, complete, block::xor(b, h)))
+    cut(k, complete, last(k, complete, block::xor(b, h)))
 }
 
 // What the padding puts after a message: zeros, or a one and zeros.
 fn mark(padding: usize) -> [u8; 16]
     ensures { bytes_bits result ≡ mark_of (method_at padding) }
 {
-    if padding == 2 {
-        return [0x80, 0, 0, 0, 0, 0, 0, 0, 0, 0, 0, 0, 0, 0, 0, 0];
+    match padding {
+        2 | 4 => [0x80, 0, 0, 0, 0, 0, 0, 0, 0, 0, 0, 0, 0, 0, 0, 0],
+        _ => [0u8; 16],
     }
-    if padding == 4 {
-        return [0x80, 0, 0, 0, 0, 0, 0, 0, 0, 0, 0, 0, 0, 0, 0, 0];
-    }
-    [0u8; 16]
 }
 
 // Whether the padding begins a new block: only method 2's does, after a full one.
 fn spills(padding: usize, waits: usize, n: usize) -> bool
     ensures { result ≡ eqb padding 2 && eqb waits n }
 {
-    if padding == 2 {
-        return waits == n;
-    }
-    false
+    padding == 2 && waits == n
 }
 
 // The end of a message of so many bits: the tag's m bits, and zeros after them.
-pub fn close(t: &cipher::Table, k: Keyed, hold: Hold, total: usize) -> [u8; 16]
-    requires { (t.now ≡ table_at k.cipher) × Expanded k }
-    ensures { Each k (λ K. bytes_bits result ≡ filled_block (finish (steps_of k K) (complete (width_of k) total) k.settings.m (absorb (width_of k) (steps_of k K) (state_of k total hold) (suffix (method_at k.settings.padding) (width_of k) total))).out) }
+pub fn close(k: &Keyed, hold: Hold, total: usize) -> [u8; 16]
+    requires { Expanded k.now }
+    ensures { Each k.now (λ K. bytes_bits result ≡ filled_block (finish (steps_of k.now K) (complete (width_of k.now) total) k.now.settings.m (absorb (width_of k.now) (steps_of k.now K) (state_of k.now total hold) (suffix (method_at k.now.settings.padding) (width_of k.now) total))).out) }
 {
     let value = hold.value;
     let held = hold.held;
@@ -401,11 +347,11 @@ pub fn close(t: &cipher::Table, k: Keyed, hold: Hold, total: usize) -> [u8; 16]
     let waits = held_bits(k.cipher, total);
     if spills(padding, waits, n) {
         let begun = begun_at(k.cipher, padding, total);
-        let h = advance(t, k, begun, value, &held);
-        return ended(t, k, true, h, p);
+        let h = advance(k, begun, value, &held);
+        return ended(k, true, h, p);
     }
     let b = block::join(held, waits, p);
-    ended(t, k, waits == n, value, b)
+    ended(k, waits == n, value, b)
 }
 
 // ---- calls

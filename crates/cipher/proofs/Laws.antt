@@ -7,13 +7,13 @@ use mathlib.Core.List.{List, [], ◌∷◌, ◌++◌, append-nil, flat_map}
 use Prim.Native.Nat.{ℕ, ◌*◌}
 use native.Mathlib.Omega.{arith}
 use lib.ListN.{length, take}
-use lib.Seq.{length-take-le}
+use lib.Seq.{length-take-le, take_all}
 use Rattle.bits.specs.Str.{Bits, bits_n, bytes_bits, words, xor_b, filled}
 use Rattle.bits.proofs.Packed.{length-bytes_bits}
-use Rattle.bits.proofs.Strings.{length-xor_b}
-use Rattle.sm4.specs.Cipher.{flat, four, dec, encrypted, decrypted}
+use Rattle.bits.proofs.Strings.{length-xor_b, filled-all}
+use Rattle.sm4.specs.Cipher.{quad, flat, four, enc, dec, encrypted, decrypted}
 use Rattle.sm4.proofs.Laws.{long-words}
-use Rattle.sm4.proofs.Inverse.{length-flat, length-enc, length-dec, length-encrypted, length-decrypted, decrypted-encrypted, encrypted-decrypted}
+use Rattle.sm4.proofs.Inverse.{flat_loaded, length-flat, length-enc, length-dec, length-encrypted, length-decrypted, decrypted-encrypted, encrypted-decrypted}
 use Rattle.cipher.specs.Cipher.{Lawful}
 use Rattle.cipher.specs.Ciphers.{sm4, cipher_at, round_keys_at, backwards_at, enc_at, dec_at, words_bits}
 use Rattle.cipher.proofs.Widths.{Width, take-filled, length-first}
@@ -49,6 +49,39 @@ flat-words (a ∷ b ∷ c ∷ d ∷ e ∷ x) h = absurd (omega arith)
 
 pub length-words_bits : (x : List ℕ) → length x ≡ 4 → length (words_bits x) ≡ 128
 length-words_bits x h = ap length (sym (flat-words x h)) ∙ length-flat _ (long-words x h)
+
+-- ---- at 128 bits all of a block count, and nothing is filled up
+
+module _ (b : List ℕ) (h : length b ≡ 16) where
+  pub all_bytes : take 128 (bytes_bits b) ≡ bytes_bits b
+  all_bytes = take_all 128 (bytes_bits b) (omega (arith, length-bytes_bits b))
+
+  pub filled_bytes : filled 128 (bytes_bits b) ≡ bytes_bits b
+  filled_bytes = filled-all 128 (bytes_bits b) (omega (arith, length-bytes_bits b))
+
+  module _ (ks : List Bits) where
+    pub filled_enc : filled 128 (enc ks (bytes_bits b)) ≡ enc ks (bytes_bits b)
+    filled_enc = filled-all 128 _ (length-enc ks (bytes_bits b) (omega (arith, length-bytes_bits b)))
+
+    pub filled_dec : filled 128 (dec ks (bytes_bits b)) ≡ dec ks (bytes_bits b)
+    filled_dec = filled-all 128 _ (length-dec ks (bytes_bits b) (omega (arith, length-bytes_bits b)))
+
+module _ (x : List ℕ) (h : length x ≡ 4) where
+  pub all_words : take 128 (words_bits x) ≡ words_bits x
+  all_words = take_all 128 (words_bits x) (omega (arith, length-words_bits x h))
+
+  pub filled_words : filled 128 (words_bits x) ≡ words_bits x
+  filled_words = filled-all 128 (words_bits x) (length-words_bits x h)
+
+  pub filled_absorb : (ks : List Bits) (part : List ℕ) → length part ≡ 16 → filled 128 (enc ks (xor_b (bytes_bits part) (words_bits x))) ≡ enc ks (xor_b (bytes_bits part) (words_bits x))
+  filled_absorb ks part e =
+      let long : length (bytes_bits part) ≡ 128 = omega (arith, length-bytes_bits part) in
+      filled-all 128 _ (length-enc ks _ (length-xor_b _ _ (long ∙ sym (length-words_bits x h)) ∙ long))
+
+  pub loaded : (b : List ℕ) → length b ≡ 16 → four (words x) ≡ quad (bytes_bits b) → words_bits x ≡ bytes_bits b
+  loaded b e p = sym (flat-words x h) ∙ flat_loaded x b e p
+
+pub ruleset whole_blocks = (all_bytes, filled_bytes, filled_enc, filled_dec, all_words, filled_words, filled_absorb, flat-words, loaded)
 
 -- ---- a cipher by its number
 

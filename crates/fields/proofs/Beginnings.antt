@@ -2,15 +2,7 @@
 -- are read alike, one after the other; so a slip cut anywhere is cut short at one of its fields, 20 (`layout-cut`), and of a longer one
 -- all fields are right and there are bytes after the seal, 24 (`layout-long`).
 -- Assumes nothing.
-use mathlib.Core.Path.{◌≡◌, refl, sym, ap, ◌∙◌, subst₂}
-use mathlib.Core.Bool.{Bool, true, false, not}
-use mathlib.Core.List.{List, [], ◌∷◌, ◌++◌, append-nil}
-use Prim.Native.Nat.{ℕ, ◌+◌, ◌-◌, ◌≤◌, ◌<◌}
-use native.Mathlib.Omega.{arith}
-use lib.ListN.{length, take, drop, get_or, length-drop}
-use lib.Seq.{take-take}
-use lib.Dec.{eqb, leb}
-use borrow.Author.Tests.{lt-ltb, le-ltb, eq-eqb, leb-true, leb-false}
+use Rattle.std.proofs.Common.{◌≡◌, refl, sym, ap, ◌∙◌, subst₂, Bool, true, false, not, List, [], ◌∷◌, ◌++◌, append-nil, ℕ, ◌+◌, ◌-◌, ◌≤◌, ◌<◌, arith, length, take, drop, get_or, length-drop, take-take, eqb, leb, lt-ltb, le-ltb, eq-eqb, leb-true, leb-false}
 use Rattle.bits.specs.Choice.{Fault, ◌given◌, first_of}
 use Rattle.bits.proofs.Lists.{drop-take}
 use Rattle.bits.proofs.Faults.{all, with, Numbered, here, later, given-first, passed, done, clear_first, first-append, first-append-clear, every_append}

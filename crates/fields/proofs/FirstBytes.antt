@@ -2,15 +2,7 @@
 -- alike field by field: label and length are three bytes, an allowed length is cut short in neither, so values and next fields agree
 -- too. And a slip whose fields are clear has 75 bytes at most (`longest`), so a program need not read more of a slip than 76.
 -- Assumes nothing.
-use mathlib.Core.Path.{◌≡◌, refl, sym, ap, ◌∙◌, subst₂}
-use mathlib.Core.Bool.{Bool, true, false, not}
-use mathlib.Core.List.{List, [], ◌∷◌, ◌++◌}
-use Prim.Native.Nat.{ℕ, zero, suc, ◌+◌, ◌-◌, ◌≤◌, ◌<◌}
-use native.Mathlib.Omega.{arith}
-use lib.ListN.{length, take, drop, get_or, length-drop}
-use lib.Seq.{get_or-take, take-take}
-use lib.Dec.{eqb, ltb}
-use borrow.Author.Tests.{lt-ltb, le-ltb}
+use Rattle.std.proofs.Common.{◌≡◌, refl, sym, ap, ◌∙◌, subst₂, Bool, true, false, not, List, [], ◌∷◌, ◌++◌, ℕ, zero, suc, ◌+◌, ◌-◌, ◌≤◌, ◌<◌, arith, length, take, drop, get_or, length-drop, get_or-take, take-take, eqb, ltb, lt-ltb, le-ltb}
 use Rattle.bits.specs.Choice.{pick, Fault, ◌given◌, first_of}
 use Rattle.bits.proofs.Lists.{drop-take}
 use Rattle.bits.proofs.Faults.{Numbered, first-clear, first-append, first-append-clear, first-front}

@@ -1,18 +1,15 @@
 -- What a field without a fault by its row is (`Formed`): its label, a length that is allowed, the whole value there, and its bytes in
 -- the range. And how a list of refusals goes on after another.
 -- Assumes nothing.
-use mathlib.Core.Path.{◌≡◌, refl, sym, ap, ◌∙◌}
-use mathlib.Core.Bool.{Bool, false, ◌||◌}
-use mathlib.Core.List.{List, [], ◌∷◌, ◌++◌}
-use Prim.Native.Nat.{ℕ, zero, suc, ◌+◌, ◌-◌, ◌≤◌, ◌<◌}
-use native.Mathlib.Omega.{arith}
-use lib.ListN.{length, drop, get_or}
-use lib.Seq.{drop-cons}
-use lib.Dec.{ltb}
-use borrow.Author.Tests.{ltb-false, le-ltb, eqb-true, not-false}
+use Rattle.std.proofs.Common.{◌≡◌, refl, Bool, true, false, List, [], ◌∷◌, ◌++◌, ℕ, zero, suc, ◌+◌, ◌-◌, ◌≤◌, ◌<◌, arith, length, get_or, eqb, ltb, ltb-false, le-ltb, eqb-true, cond, Ok, Err}
+use Rattle.std.proofs.lemmas.Bool.{eqb-false, not-false, cond_both}
+use Rattle.std.proofs.lemmas.Grind.{common_steps}
+use Rattle.refusals.specs.Number.{refusal_number, number_in}
+use Rattle.refusals.specs.declared.Refusal.{Refusal}
 use Rattle.bits.specs.Choice.{pick, Fault, ◌given◌, first_of}
 use Rattle.bits.proofs.Strings.{neither}
 use Rattle.bits.proofs.Faults.{Clear, passed, done, Every, all, with, Numbered, first-append, first-append-clear}
+use Rattle.refusals.proofs.Number.{refusal-numbered}
 use Rattle.fields.specs.Field.{outside, any_outside, length_of, value, end_of, field_faults}
 use Rattle.fields.specs.declared.Row.{Row}
 
@@ -44,13 +41,6 @@ pub any-byte : (s : List ℕ) → ((i : ℕ) → get_or s i 0 < 256) → any_out
 unfolding any_outside outside
 any-byte [] fit = refl
 any-byte (b ∷ s) fit = rw (le-ltb b 0 (omega arith), le-ltb 255 b (omega (arith, fit 0))) (any-byte s (λ i. fit (suc i)))
-
--- from place i on: the byte there, or one after it
-pub any_outside-at : (least most : ℕ) (s : List ℕ) (i : ℕ) → i < length s → any_outside least most (drop i s) ≡ (outside least most (get_or s i 0) || any_outside least most (drop (i + 1) s))
-unfolding any_outside
-any_outside-at least most s i h =
-    let next : suc i ≡ i + 1 = omega arith in
-    ap (any_outside least most) (drop-cons s i 0 h ∙ ap (λ (k : ℕ). get_or s i 0 ∷ drop k s) next)
 
 -- ---- a field
 
@@ -87,15 +77,34 @@ end_whole field h = rw (le-ltb (length field) (3 + length_of field) h) refl
 
 -- ---- one list of refusals after another
 
--- the refusal of the first, where it has one
-pub head_first : (fs gs : List Fault) (r : ℕ) → r ≡ first_of fs → (r ≡ 0 → ⊥) → r ≡ first_of (fs ++ gs)
-head_first fs gs r e h = e ∙ sym (first-append fs gs (λ z. h (e ∙ z)))
+-- the first answers, and where it has no fault the second
+pub in-turn : (fs gs : List Fault) → Numbered fs → first_of (fs ++ gs) ≡ cond (eqb (first_of fs) 0) (first_of gs) (first_of fs)
+in-turn fs gs o =
+    let n = first_of fs in
+    cond_both (eqb n 0) (first_of gs) n (λ r. first_of (fs ++ gs) ≡ r) (λ e. first-append-clear fs gs o (eqb-true n 0 e)) (λ e. first-append fs gs (eqb-false n 0 e))
 
--- else that of the second
-pub rest-first : (fs gs : List Fault) (n r : ℕ) → Numbered fs → n ≡ first_of fs → n ≡ 0 → r ≡ first_of gs → r ≡ first_of (fs ++ gs)
-rest-first fs gs n r o e z g = g ∙ sym (first-append-clear fs gs o (sym e ∙ z))
+-- of a field: its row's faults, then others
+pub row_first : (row : Row) (field : List ℕ) (gs : List Fault) → first_of (field_faults row field ++ gs) ≡ cond (eqb (first_of (field_faults row field)) 0) (first_of gs) (first_of (field_faults row field))
+row_first row field gs = in-turn (field_faults row field) gs (field-numbered row field)
 
--- where the second is one fault of the field's own
-pub own_first : (row : Row) (field : List ℕ) (k : ℕ) (b : Bool) (n r : ℕ) → n ≡ first_of (field_faults row field) → n ≡ 0 → r ≡ pick b k 0 → r ≡ first_of (field_faults row field ++ (k given b ∷ []))
+-- fault by fault
+pub first_none : first_of [] ≡ 0
 unfolding first_of
-own_first row field k b n r e z g = rest-first (field_faults row field) (k given b ∷ []) n r (field-numbered row field) e z g
+first_none = refl
+
+pub first_more : (n : ℕ) (b : Bool) (fs : List Fault) → first_of (n given b ∷ fs) ≡ cond b n (first_of fs)
+unfolding first_of pick
+first_more n true fs = refl
+first_more n false fs = refl
+
+-- the number of a judgement, case by case
+pub number_ok : (u : Unit {0}) → number_in (Ok u) ≡ 0
+unfolding number_in
+number_ok u = refl
+
+pub number_err : (r : Refusal) → (number_in {A = Unit {0}} (Err r) ≡ refusal_number r) × (0 < refusal_number r)
+unfolding number_in
+number_err r = (refl, refusal-numbered r)
+
+-- what judgements of a field, one after the other, come to
+pub ruleset judged = (row_first, first_none, first_more, number_ok, number_err, common_steps)

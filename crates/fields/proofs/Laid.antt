@@ -1,21 +1,16 @@
 -- A slip without a fault in its fields: what is known of it, and where its fields stand. The four lists of refusals follow each
 -- other, so what the checks found clear is taken apart once, here.
 -- Assumes nothing.
-use mathlib.Core.Path.{◌≡◌, refl}
-use mathlib.Core.Bool.{false}
-use mathlib.Core.List.{List}
-use Prim.Native.Nat.{ℕ, ◌+◌, ◌≤◌}
-use native.Mathlib.Omega.{arith}
-use lib.ListN.{length, length-take}
-use borrow.Author.Tests.{ltb-false}
+use Rattle.std.proofs.Common.{◌≡◌, refl, false, List, ℕ, ◌+◌, ◌≤◌, arith, length, drop, length-take, ltb-false, eqb, cond}
 use Rattle.bits.specs.Choice.{first_of}
+use Rattle.bits.proofs.Lists.{take_rest}
 use Rattle.bits.proofs.Faults.{clear-one, Every, all, with, Numbered, first-clear, clear-append, every_append}
 use Rattle.fields.specs.Format.{expiry_row, lot_row, amount_row, seal_row}
 use Rattle.fields.specs.Field.{length_of, end_of, field_faults}
 use Rattle.fields.specs.Date.{year_of, month_of, day_of, date_wrong}
-use Rattle.fields.specs.Layout.{lot_field_at, amount_at, seal_at, lot_field, amount_field, seal_field, covered, amount_of, amount_wrong, expiry_faults, lot_faults, amount_faults, seal_faults, layout_faults}
-use Rattle.fields.proofs.Formed.{Formed, formed, field-every, end_whole}
-use Rattle.fields.proofs.Inside.{seal-there}
+use Rattle.fields.specs.Layout.{places_of, lot_field_at, amount_at, seal_at, lot_field, amount_field, seal_field, covered, amount_of, amount_wrong, expiry_faults, lot_faults, amount_faults, seal_faults, layout_faults}
+use Rattle.fields.proofs.Formed.{Formed, formed, field-every, end_whole, in-turn, number_ok, number_err}
+use Rattle.fields.proofs.Inside.{lot-there, amount-there, seal-there}
 
 -- ---- the numbers of the refusals: what holds of 20 to 24 holds of them all
 
@@ -51,6 +46,26 @@ amount-numbered field = amount-every refl refl refl field
 
 pub layout-numbered : (s : List ℕ) → Numbered (layout_faults s)
 layout-numbered s = layout-every refl refl refl refl refl s
+
+-- ---- the first of them, by those of the four fields at their places
+
+pub layout_first : (s : List ℕ) → first_of (layout_faults s) ≡
+    (let at = places_of s in
+    let expiry = first_of (expiry_faults s) in
+    let lot = first_of (field_faults lot_row (drop at.lot s)) in
+    let amount = first_of (amount_faults (drop at.amount s)) in
+    let seal = first_of (seal_faults (drop at.seal s)) in
+    cond (eqb expiry 0) (cond (eqb lot 0) (cond (eqb amount 0) seal amount) lot) expiry)
+unfolding layout_faults lot_faults places_of lot_field amount_field seal_field
+layout_first s = rw (in-turn (expiry_faults s) _ (expiry-numbered s), in-turn (field_faults lot_row (lot_field s)) _ (lot-numbered (lot_field s)), in-turn (amount_faults (amount_field s)) _ (amount-numbered (amount_field s))) refl
+
+-- which stand inside the slip
+pub places_there : (s : List ℕ) → let at = places_of s in (at.lot ≤ length s) × (at.amount ≤ length s) × (at.seal ≤ length s)
+unfolding places_of
+places_there s = (lot-there s, amount-there s, seal-there s)
+
+-- what the judgements of the fields, one after the other, come to
+pub ruleset in_order = (layout_first, places_there, number_ok, number_err, take_rest)
 
 -- ---- what is known
 

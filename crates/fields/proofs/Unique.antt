@@ -1,8 +1,10 @@
 -- No second answer satisfies any public function's contract.
 -- Assumes nothing.
-use mathlib.Core.Path.{refl}
+use Rattle.std.proofs.Common.{refl, ap}
 use Rattle.bits.specs.Once.{Unique}
 use Rattle.bits.proofs.Same.{same}
+use Rattle.refusals.proofs.Number.{same-judged}
+use Rattle.fields.specs.Layout.{LayoutTold}
 use Rattle.fields.proofs.byte_at.Kinds as byte-at-k
 use Rattle.fields.proofs.byte_at.Reads as byte_at
 use Rattle.fields.proofs.year.Kinds as year-k
@@ -21,8 +23,10 @@ use Rattle.fields.proofs.outside.Kinds as outside-k
 use Rattle.fields.proofs.outside.Reads as outside
 use Rattle.fields.proofs.any_outside.Kinds as any-outside-k
 use Rattle.fields.proofs.any_outside.Reads as any-outside
-use Rattle.fields.proofs.date_wrong.Kinds as date-wrong-k
-use Rattle.fields.proofs.date_wrong.Reads as date-wrong
+use Rattle.fields.proofs.Date.read.Kinds as date-read-k
+use Rattle.fields.proofs.Date.read.Reads as date-read
+use Rattle.fields.proofs.Date.is_wrong.Kinds as date-wrong-k
+use Rattle.fields.proofs.Date.is_wrong.Reads as date-wrong
 use Rattle.fields.proofs.amount_wrong.Kinds as amount-wrong-k
 use Rattle.fields.proofs.amount_wrong.Reads as amount-wrong
 
@@ -38,6 +42,9 @@ month-unique κs a g p x y = (same x.ensures y.ensures, refl)
 pub day-unique : Unique day-k.ps day-k.r day.Asked day.Learnt
 day-unique κs a g p x y = (same x.ensures y.ensures, refl)
 
+pub date-read-unique : Unique date-read-k.ps date-read-k.r date-read.Asked date-read.Learnt
+date-read-unique κs a g p x y = (same x.ensures y.ensures, refl)
+
 pub lot-length-unique : Unique lot-length-k.ps lot-length-k.r lot-length.Asked lot-length.Learnt
 lot-length-unique κs a g p x y = (same x.ensures y.ensures, refl)
 
@@ -45,7 +52,10 @@ pub amount-unique : Unique amount-k.ps amount-k.r amount.Asked amount.Learnt
 amount-unique κs a g p x y = (same x.ensures y.ensures, refl)
 
 pub laid-out-unique : Unique laid-out-k.ps laid-out-k.r laid_out.Asked laid_out.Learnt
-laid-out-unique κs a g p x y = (same x.ensures y.ensures, refl)
+laid-out-unique κs a g p x y =
+    let told = same x.ensures y.ensures in
+    let judged = same-judged (λ u v. refl) _ _ (ap (λ (t : LayoutTold). t.refusal) told) in
+    (λ i. record { places = (told i).places; judged = judged i }, refl)
 
 pub outside-unique : Unique outside-k.ps outside-k.r outside.Asked outside.Learnt
 outside-unique κs a g p x y = (same x.ensures y.ensures, refl)

@@ -2,16 +2,10 @@
 -- byte besides (`four-fields`). A field that names an allowed length names the value's own length, since none is over 255. So every
 -- number of it is a byte (`slip-bytes`).
 -- Assumes nothing.
-use mathlib.Core.Path.{◌≡◌, refl, sym, ap, ◌∙◌, subst}
-use mathlib.Core.Bool.{false}
-use mathlib.Core.List.{List, [], ◌∷◌, ◌++◌, append-nil}
-use Prim.Native.Nat.{ℕ, zero, suc, ◌/◌, ◌%◌, ◌<◌}
-use native.Mathlib.Omega.{arith}
-use lib.ListN.{length, take, drop, get_or, length-drop, take-append-drop, drop_of_length-le}
-use lib.Seq.{drop-cons, drop-drop, length-take-le, take_all}
+use Rattle.std.proofs.Common.{◌≡◌, refl, sym, ap, ◌∙◌, subst, false, List, [], ◌∷◌, ◌++◌, append-nil, ℕ, zero, suc, ◌/◌, ◌%◌, ◌<◌, arith, length, take, drop, get_or, length-drop, take-append-drop, drop_of_length-le, drop-cons, drop-drop, length-take-le, take_all}
 use Rattle.bits.proofs.Strings.{neither}
 use Rattle.fields.specs.Format.{expiry_row, lot_row, amount_row, seal_row}
-use Rattle.fields.specs.Field.{any_outside, two_bytes, length_of, value, end_of, field_of}
+use Rattle.fields.specs.Field.{outside, any_outside, two_bytes, length_of, value, end_of, field_of}
 use Rattle.fields.specs.Layout.{lot_field_at, amount_at, seal_at, lot_field, amount_field, seal_field, covered}
 use Rattle.fields.specs.declared.Row.{Row}
 use Rattle.fields.proofs.Formed.{Formed, within, end_whole}
@@ -104,7 +98,7 @@ bytes-within : (low high : ℕ) (s : List ℕ) → high < 256 → any_outside lo
 unfolding any_outside
 bytes-within low high [] h e = λ i. omega arith
 bytes-within low high (x ∷ s) h e =
-    let both = neither _ _ e in
+    let both = neither (outside low high x) (any_outside low high s) e in
     bytes-cons x s (omega (arith, (within low high x both.0).high)) (bytes-within low high s h both.1)
 
 field-bytes : (row : Row) (field : List ℕ) → Formed row field → row.label < 256 → row.most < 256 → row.high < 256 → Bytewise (field_of row (value field))

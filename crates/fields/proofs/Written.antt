@@ -1,14 +1,7 @@
 -- A field that is put together from its row and a value that the row allows is read back from whatever slip goes on after it: it has
 -- no fault, its value is that value, and after it comes what came after it.
 -- Assumes nothing.
-use mathlib.Core.Path.{◌≡◌, refl, ap, ◌∙◌}
-use mathlib.Core.Bool.{false}
-use mathlib.Core.List.{List, ◌∷◌, ◌++◌}
-use Prim.Native.Nat.{ℕ, ◌+◌, ◌-◌, ◌/◌, ◌%◌, ◌≤◌}
-use native.Mathlib.Omega.{arith}
-use lib.ListN.{length, take, drop, length-append}
-use lib.Seq.{take_at, drop_at}
-use borrow.Author.Tests.{le-ltb, eq-eqb}
+use Rattle.std.proofs.Common.{◌≡◌, refl, ap, ◌∙◌, false, List, ◌∷◌, ◌++◌, ℕ, ◌+◌, ◌-◌, ◌/◌, ◌%◌, ◌≤◌, arith, length, take, drop, length-append, take_at, drop_at, le-ltb, eq-eqb}
 use Rattle.bits.specs.Choice.{first_of}
 use Rattle.bits.proofs.Faults.{passed, done, clear_first}
 use Rattle.fields.specs.Field.{outside, any_outside, two_bytes, length_of, value, end_of, field_faults, field_of}

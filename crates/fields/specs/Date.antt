@@ -4,6 +4,7 @@
 use Rattle.std.specs.Prelude.{Bool, ◌||◌, List, [], ◌∷◌, ℕ, ◌+◌, ◌-◌, ◌*◌, ◌%◌, get_or, eqb}
 use Rattle.bits.specs.Choice.{pick}
 use Rattle.fields.specs.Field.{outside}
+use Rattle.fields.specs.declared.Date.{Date}
 
 unfoldable pub digit_at : List ℕ → ℕ → ℕ
 digit_at s i = get_or s i 0 - 0x30
@@ -19,6 +20,9 @@ month_of field = two_digits field 7
 
 unfoldable pub day_of : List ℕ → ℕ
 day_of field = two_digits field 9
+
+abbrev pub date_of : List ℕ → Date
+date_of field = record { year = year_of field; month = month_of field; day = day_of field }
 
 -- days of the months: a row for common years, a row for leap years
 unfoldable pub days : List (List ℕ)

@@ -2,7 +2,8 @@
 -- given as what is left of the slip from its first byte on; a byte that is not there counts as 0, and the faults see to it that no
 -- such byte is ever believed.
 -- Assumes nothing.
-use Rattle.std.specs.Prelude.{Bool, false, ◌||◌, not, List, [], ◌∷◌, ℕ, ◌+◌, ◌-◌, ◌*◌, ◌/◌, ◌%◌, length, take, drop, get_or, eqb, ltb}
+use Rattle.std.specs.Prelude.{Bool, ◌||◌, not, List, [], ◌∷◌, ℕ, ◌+◌, ◌-◌, ◌*◌, ◌/◌, ◌%◌, length, take, drop, get_or, eqb, ltb}
+use Rattle.std.specs.List.{list_any}
 use Rattle.bits.specs.Choice.{pick, Fault, ◌given◌}
 use Rattle.fields.specs.declared.Row.{Row}
 
@@ -12,8 +13,7 @@ outside least most x = ltb x least || ltb most x
 
 -- some byte is
 unfoldable pub any_outside : ℕ → ℕ → List ℕ → Bool
-any_outside least most [] = false
-any_outside least most (b ∷ bs) = outside least most b || any_outside least most bs
+any_outside least most s = list_any (outside least most) s
 
 -- two bytes as a number, high byte first
 unfoldable pub two_bytes : List ℕ → ℕ → ℕ

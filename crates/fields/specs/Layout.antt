@@ -5,6 +5,7 @@ use Rattle.bits.specs.Choice.{Fault, ◌given◌, first_of}
 use Rattle.fields.specs.Format.{expiry_row, lot_row, amount_row, seal_row}
 use Rattle.fields.specs.Field.{outside, two_bytes, end_of, field_faults}
 use Rattle.fields.specs.Date.{year_of, month_of, day_of, date_wrong}
+use Rattle.refusals.specs.Number.{number_in}
 use Rattle.fields.specs.declared.Places.{Places}
 use Rattle.fields.specs.declared.Layout.{Layout}
 
@@ -63,6 +64,14 @@ seal_faults field = field_faults seal_row field ++ (24 given ltb (end_of field) 
 unfoldable pub layout_faults : List ℕ → List Fault
 layout_faults s = expiry_faults s ++ (lot_faults (lot_field s) ++ (amount_faults (amount_field s) ++ seal_faults (seal_field s)))
 
--- where the fields stand, and the first refusal
-unfoldable pub layout_of : List ℕ → Layout
+-- where the fields stand, and the first refusal, 0 where there is none
+pub record LayoutTold : Type 0 where
+  pub places : Places
+  pub refusal : ℕ
+
+unfoldable pub layout_of : List ℕ → LayoutTold
 layout_of s = record { places = places_of s; refusal = first_of (layout_faults s) }
+
+-- what the code answers, told so
+abbrev pub layout_told : Layout → LayoutTold
+layout_told l = record { places = l.places; refusal = number_in l.judged }

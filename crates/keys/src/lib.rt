@@ -35,13 +35,11 @@ pub struct Unpacked {
 fn second_given(given: &[u8]) -> [u8; 16]
     ensures { result ≡ front (drop 16 given.now) }
 {
-    if given.len() < 16 {
-        return [0u8; 16];
-    }
-    block::front(&given[16..])
+    block::front(&given[given.len().min(16)..])
 }
 
 // The bytes as a record keeps them: room for two keys, zeros where fewer were given.
+#[tactic(auto, unfolding(crate::specs::Given::given_of))]
 pub fn kept(given: &[u8]) -> [u8; 32]
     ensures { result ≡ given_of given.now }
 {
@@ -51,32 +49,26 @@ pub fn kept(given: &[u8]) -> [u8; 32]
 // ---- the keys in use
 
 // The two keys that a master makes.
-#[derive(Clone, Copy)]
-struct Pair {
-    first: [u8; 16],
-    second: [u8; 16],
-}
-
-fn derived(master: [u8; 16]) -> Pair
-    ensures { (bytes_bits result.first, bytes_bits result.second) ≡ (derived (cipher_at 1) (bytes_bits master)).out }
+fn derived(master: [u8; 16]) -> ([u8; 16], [u8; 16])
+    ensures { (bytes_bits result.0, bytes_bits result.1) ≡ (derived (cipher_at 1) (bytes_bits master)).out }
 {
     let n = cipher::width(cipher::SM4);
     let t = cipher::table(cipher::SM4);
     let rk = cipher::schedule(&t, cipher::SM4, master);
     let first = cipher::encrypt(&t, cipher::SM4, rk, block::number(1, n));
     let second = cipher::encrypt(&t, cipher::SM4, rk, block::number(2, n));
-    Pair { first, second }
+    (first, second)
 }
 
 // K and K', and K'' made from K'.
+#[tactic(auto, unfolding(crate::specs::Given::key_bits))]
 fn of_two(first: [u8; 16], second: [u8; 16]) -> KeyBlocks
     ensures { key_bits result ≡ keys (bytes_bits first) (bytes_bits second) }
 {
-    let third = block::every_second(second);
     KeyBlocks {
         first,
         second,
-        third,
+        third: block::every_second(second),
     }
 }
 
@@ -86,95 +78,68 @@ pub fn unpack(master: bool, algorithm: usize, given: &[u8]) -> Unpacked
 {
     let first = block::front(given);
     let second = second_given(given);
-    if !master {
-        return Unpacked {
+    if master {
+        let row = mac::row_of(algorithm);
+        let keys = if row.third {
+            let (second, third) = derived(second);
+            KeyBlocks {
+                first,
+                second,
+                third,
+            }
+        } else {
+            let (first, second) = derived(first);
+            of_two(first, second)
+        };
+        Unpacked { keys, calls: 2 }
+    } else {
+        Unpacked {
             keys: of_two(first, second),
             calls: 0,
-        };
-    }
-    let row = mac::row_of(algorithm);
-    if row.third {
-        let made = derived(second);
-        let made_first = made.first;
-        let made_second = made.second;
-        let keys = KeyBlocks {
-            first,
-            second: made_first,
-            third: made_second,
-        };
-        return Unpacked { keys, calls: 2 };
-    }
-    let made = derived(first);
-    let made_first = made.first;
-    let made_second = made.second;
-    Unpacked {
-        keys: of_two(made_first, made_second),
-        calls: 2,
+        }
     }
 }
 
 // ---- refusals 4 and 5
 
 // Whether two keys are given, under a master or without.
+#[tactic(auto, unfolding(bits::specs::Choice::pick))]
 fn two_given(master: bool, algorithm: usize) -> bool
     ensures { result ≡ pick master (row (algorithm_at algorithm)).third (row (algorithm_at algorithm)).two }
 {
     let row = mac::row_of(algorithm);
-    if master {
-        return row.third;
-    }
-    row.two
+    if master { row.third } else { row.two }
 }
 
 // How many bytes an algorithm takes.
+#[tactic(auto, unfolding(bits::specs::Choice::pick, crate::specs::Faults::key_bytes))]
 pub fn bytes_of(master: bool, algorithm: usize) -> usize
     ensures { result ≡ key_bytes master algorithm }
 {
-    if two_given(master, algorithm) {
-        return 32;
-    }
-    16
+    if two_given(master, algorithm) { 32 } else { 16 }
 }
 
 // Whether a master is in use with an algorithm that takes none.
+#[tactic(auto, unfolding(crate::specs::Faults::master_wrong))]
 fn master_wrong(master: bool, algorithm: usize) -> bool
     ensures { result ≡ master_wrong master algorithm }
 {
     let row = mac::row_of(algorithm);
-    if master {
-        return !row.master;
-    }
-    false
+    master && !row.master
 }
 
+#[tactic(auto, unfolding(crate::specs::Faults::key_bytes_wrong))]
 pub fn bytes_wrong(master: bool, algorithm: usize, given: usize) -> bool
     ensures { result ≡ key_bytes_wrong master algorithm given }
 {
-    if master_wrong(master, algorithm) {
-        return true;
-    }
-    given != bytes_of(master, algorithm)
+    master_wrong(master, algorithm) || given != bytes_of(master, algorithm)
 }
 
-// Whether two keys are the same, where that matters.
-fn same_where(on: bool, a: [u8; 16], b: [u8; 16]) -> bool
-    ensures { result ≡ on && same_b (bytes_bits a) (bytes_bits b) }
-{
-    if on {
-        return block::equal(a, b);
-    }
-    false
-}
-
+#[tactic(auto, unfolding(crate::specs::Faults::keys_same, crate::specs::Given::key_bits))]
 pub fn same(algorithm: usize, keys: KeyBlocks) -> bool
     ensures { result ≡ keys_same algorithm (key_bits keys) }
 {
     let row = mac::row_of(algorithm);
-    let first = keys.first;
-    let second = keys.second;
-    let third = keys.third;
-    if same_where(row.differ, first, second) {
-        return true;
-    }
-    same_where(row.third, first, third)
+    row.differ && block::equal(keys.first, keys.second)
+        || row.third && block::equal(keys.first, keys.third)
 }

@@ -20,6 +20,17 @@ module _ (P : ℕ → Algorithm → Type 0) (p1 : (a : ℕ) → P a alg1) (p2 : 
   by_number (suc (suc (suc (suc (suc (suc (suc (suc zero)))))))) = p8
   by_number (suc (suc (suc (suc (suc (suc (suc (suc (suc a))))))))) = p1 (suc (suc (suc (suc (suc (suc (suc (suc (suc a)))))))))
 
+-- no algorithm asks for more than two blocks
+pub least-two : (A : Algorithm) → (row A).least ≤ 2
+least-two alg1 = omega arith
+least-two alg2 = omega arith
+least-two alg3 = omega arith
+least-two alg4 = omega arith
+least-two alg5 = omega arith
+least-two alg6 = omega arith
+least-two alg7 = omega arith
+least-two alg8 = omega arith
+
 -- a number that is none of 2 to 8
 pub other-number : (a : ℕ) → (a ≡ 2 → ⊥) → (a ≡ 3 → ⊥) → (a ≡ 4 → ⊥) → (a ≡ 5 → ⊥) → (a ≡ 6 → ⊥) → (a ≡ 7 → ⊥) → (a ≡ 8 → ⊥) → algorithm_at a ≡ alg1
 other-number =
@@ -32,14 +43,3 @@ other-number =
     (λ n2 n3 n4 n5 n6 n7 n8. absurd (n6 refl))
     (λ n2 n3 n4 n5 n6 n7 n8. absurd (n7 refl))
     (λ n2 n3 n4 n5 n6 n7 n8. absurd (n8 refl))
-
--- no algorithm asks for more than two blocks
-pub least-two : (A : Algorithm) → (row A).least ≤ 2
-least-two alg1 = omega arith
-least-two alg2 = omega arith
-least-two alg3 = omega arith
-least-two alg4 = omega arith
-least-two alg5 = omega arith
-least-two alg6 = omega arith
-least-two alg7 = omega arith
-least-two alg8 = omega arith

@@ -26,97 +26,9 @@ impl Row {
     pub const LONGEST_TAG: usize = 128;
 
     pub const LONGEST_TAG_OF_7: usize = 63;
-}
 
-// The row of an algorithm by its number; that of algorithm 1 where no algorithm has it.
-pub fn row_of(algorithm: usize) -> Row
-    ensures { result ≡ row (algorithm_at algorithm) }
-{
-    if algorithm == 2 {
-        return Row {
-            four: false,
-            two: true,
-            differ: true,
-            third: false,
-            master: true,
-            further: 1,
-            least: 1,
-            longest: Row::LONGEST_TAG,
-        };
-    }
-    if algorithm == 3 {
-        return Row {
-            four: false,
-            two: true,
-            differ: false,
-            third: false,
-            master: false,
-            further: 2,
-            least: 1,
-            longest: Row::LONGEST_TAG,
-        };
-    }
-    if algorithm == 4 {
-        return Row {
-            four: false,
-            two: true,
-            differ: true,
-            third: true,
-            master: true,
-            further: 2,
-            least: 2,
-            longest: Row::LONGEST_TAG,
-        };
-    }
-    if algorithm == 5 {
-        return Row {
-            four: true,
-            two: false,
-            differ: false,
-            third: false,
-            master: false,
-            further: 1,
-            least: 1,
-            longest: Row::LONGEST_TAG,
-        };
-    }
-    if algorithm == 6 {
-        return Row {
-            four: false,
-            two: true,
-            differ: true,
-            third: false,
-            master: true,
-            further: 0,
-            least: 1,
-            longest: Row::LONGEST_TAG,
-        };
-    }
-    if algorithm == 7 {
-        return Row {
-            four: true,
-            two: false,
-            differ: false,
-            third: false,
-            master: false,
-            further: 0,
-            least: 1,
-            longest: Row::LONGEST_TAG_OF_7,
-        };
-    }
-    if algorithm == 8 {
-        return Row {
-            four: true,
-            two: false,
-            differ: false,
-            third: false,
-            master: false,
-            further: 1,
-            least: 1,
-            longest: Row::LONGEST_TAG,
-        };
-    }
-    Row {
+    // Algorithm 1's, from which the others are told apart.
+    const FIRST: Row = Row {
         four: false,
         two: false,
         differ: false,
@@ -125,6 +37,54 @@ pub fn row_of(algorithm: usize) -> Row
         further: 0,
         least: 1,
         longest: Row::LONGEST_TAG,
+    };
+}
+
+// The row of an algorithm by its number; that of algorithm 1 where no algorithm has it.
+// By the paper's number: every number is answered, so an enum would ask more of callers.
+#[tactic(auto, unfolding(crate::specs::Algorithm::algorithm_at))]
+pub fn row_of(algorithm: usize) -> Row
+    ensures { result ≡ row (algorithm_at algorithm) }
+{
+    match algorithm {
+        2 => Row {
+            two: true,
+            differ: true,
+            master: true,
+            further: 1,
+            ..Row::FIRST
+        },
+        3 => Row {
+            two: true,
+            further: 2,
+            ..Row::FIRST
+        },
+        4 => Row {
+            two: true,
+            differ: true,
+            third: true,
+            master: true,
+            further: 2,
+            least: 2,
+            ..Row::FIRST
+        },
+        5 | 8 => Row {
+            four: true,
+            further: 1,
+            ..Row::FIRST
+        },
+        6 => Row {
+            two: true,
+            differ: true,
+            master: true,
+            ..Row::FIRST
+        },
+        7 => Row {
+            four: true,
+            longest: Row::LONGEST_TAG_OF_7,
+            ..Row::FIRST
+        },
+        _ => Row::FIRST,
     }
 }
 
@@ -132,22 +92,17 @@ pub fn row_of(algorithm: usize) -> Row
 fn needed(cipher: usize, bits: usize) -> usize
     ensures { result ≡ suc ((bits - 1) / (cipher_at cipher).n) }
 {
-    let n = cipher::width(cipher);
-    if bits == 0 {
-        return 1;
-    }
-    (bits - 1) / n + 1
+    bits.div_ceil(cipher::width(cipher)).max(1)
 }
 
 // q, by the numbers of the cipher and the padding and the message's bit count.
+// By the paper's number: every number is answered, so an enum would ask more of callers.
 pub fn block_count(cipher: usize, padding: usize, bits: usize) -> usize
     ensures { result ≡ block_count (method_at padding) (cipher_at cipher).n bits }
 {
-    if padding == 2 {
-        return bits / cipher::width(cipher) + 1;
+    match padding {
+        2 => bits / cipher::width(cipher) + 1,
+        3 => needed(cipher, bits) + 1,
+        _ => needed(cipher, bits),
     }
-    if padding == 3 {
-        return needed(cipher, bits) + 1;
-    }
-    needed(cipher, bits)
 }

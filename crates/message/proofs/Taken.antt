@@ -12,7 +12,7 @@ use Rattle.mac.specs.Padding.{method_at, block_count}
 use Rattle.mac.specs.Algorithm.{algorithm_at, row}
 use Rattle.mac.specs.Tag.{bytes_for}
 use Rattle.settings.specs.declared.Settings.{Settings}
-use Rattle.message.specs.Faults.{length_wrong, too_many_bits, too_few_blocks, message_faults}
+use Rattle.message.specs.Faults.{too_few_blocks, message_faults}
 
 pub record Taken (S : Settings) (c l : ℕ) (ten : Bool) : Type 0 where
   pub long : c ≡ bytes_for l
@@ -30,11 +30,10 @@ pub message-numbered : (S : Settings) (c l : ℕ) (ten : Bool) → Numbered (mes
 message-numbered S c l ten = message-every refl refl refl refl S c l ten
 
 pub enough-held : (S : Settings) (l : ℕ) → too_few_blocks S l ≡ false → (row (algorithm_at S.algorithm)).least ≤ block_count (method_at S.padding) (cipher_at 1).n l
-unfolding too_few_blocks
 enough-held S l h = ltb-false _ _ h
 
 pub clear-taken : (S : Settings) (c l : ℕ) (ten : Bool) → Clear (message_faults S c l ten) → Taken S c l ten
-unfolding message_faults length_wrong too_many_bits bytes_for
+unfolding message_faults bytes_for
 clear-taken S c l ten (passed e7 (passed e8 (passed e9 (passed e10 done)))) =
     let long = eqb-true c (bytes_for l) (not-false _ e7) in
     record { long = long; holds = omega arith; few = ltb-false 8388608 l e8; enough = enough-held S l e9; room = e10 }

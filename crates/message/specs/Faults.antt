@@ -10,22 +10,22 @@ use Rattle.mac.specs.Tag.{bytes_for}
 use Rattle.settings.specs.declared.Settings.{Settings}
 
 -- 7: slice length is not the bit count divided by 8, rounded up
-unfoldable pub length_wrong : ℕ → ℕ → Bool
+abbrev pub length_wrong : ℕ → ℕ → Bool
 length_wrong c l = not (eqb c (bytes_for l))
 
 -- 8: too many bits
-unfoldable pub too_many_bits : ℕ → Bool
+abbrev pub too_many_bits : ℕ → Bool
 too_many_bits l = ltb 8388608 l
 
 -- 9: algorithm 4 and q < 2. Every message has a block, so the least of the other rows, 1, refuses none
-unfoldable pub too_few_blocks : Settings → ℕ → Bool
+abbrev pub too_few_blocks : Settings → ℕ → Bool
 too_few_blocks S l = ltb (block_count (method_at S.padding) (cipher_at 1).n l) (row (algorithm_at S.algorithm)).least
 
 -- 10: room for a tag under ⌈m/8⌉ bytes; when checking, tag not exactly that long
-unfoldable pub room_short : ℕ → ℕ → Bool
+abbrev pub room_short : ℕ → ℕ → Bool
 room_short m room = ltb room (bytes_for m)
 
-unfoldable pub tag_length_wrong : ℕ → ℕ → Bool
+abbrev pub tag_length_wrong : ℕ → ℕ → Bool
 tag_length_wrong m c = not (eqb c (bytes_for m))
 
 -- in this order: c bytes of message, l bits; ten is fault 10
@@ -38,5 +38,5 @@ message_faults S c l ten =
     []
 
 -- 41: block j, counted from 0, is not a whole block inside the l bits of the message
-unfoldable pub no_such_block : ℕ → ℕ → Bool
+abbrev pub no_such_block : ℕ → ℕ → Bool
 no_such_block l j = ltb l (suc j * (cipher_at 1).n)

@@ -5,16 +5,17 @@
 ghost use Rattle.std.specs.Prelude.{◌≡◌, ◌+◌};
 ghost use Rattle.bits.specs.Choice.{first_of};
 ghost use Rattle.mac.specs.Tag.{bytes_for};
+ghost use Rattle.refusals.specs.Number.{number_in};
 ghost use Rattle.message.specs.Faults.{length_wrong, too_many_bits, too_few_blocks, room_short, tag_length_wrong, message_faults, no_such_block};
+
+use refusals::Refusal;
+use settings::Settings;
 
 // The bit count divided by 8, rounded up.
 pub fn bytes_for(bits: usize) -> usize
     ensures { result ≡ bytes_for bits }
 {
-    if bits % 8 == 0 {
-        return bits / 8;
-    }
-    bits / 8 + 1
+    bits.div_ceil(8)
 }
 
 pub fn length_wrong(length: usize, bits: usize) -> bool
@@ -26,20 +27,17 @@ pub fn length_wrong(length: usize, bits: usize) -> bool
 pub fn too_many_bits(bits: usize) -> bool
     ensures { result ≡ too_many_bits bits }
 {
-    settings::Settings::MOST_BITS < bits
+    Settings::MOST_BITS < bits
 }
 
 // Whether so many more bits are too many, with no sum that could wrap.
 pub fn too_many_more(total: usize, bits: usize) -> bool
     ensures { result ≡ too_many_bits (total + bits) }
 {
-    if settings::Settings::MOST_BITS < total {
-        return true;
-    }
-    settings::Settings::MOST_BITS - total < bits
+    Settings::MOST_BITS < total || Settings::MOST_BITS - total < bits
 }
 
-pub fn too_few_blocks(s: settings::Settings, bits: usize) -> bool
+pub fn too_few_blocks(s: Settings, bits: usize) -> bool
     ensures { result ≡ too_few_blocks s bits }
 {
     let row = mac::row_of(s.algorithm);
@@ -58,17 +56,16 @@ pub fn tag_length_wrong(m: usize, length: usize) -> bool
     length != bytes_for(m)
 }
 
-// The first refusal of 7 to 10, and 0 where there is none; the test for 10 is the caller's.
-pub fn refusal(s: settings::Settings, length: usize, bits: usize, ten: bool) -> usize
-    ensures { result ≡ first_of (message_faults s length bits ten) }
+// The first refusal of 7 to 10, if there is one; the test for 10 is the caller's.
+pub fn refusal(s: Settings, length: usize, bits: usize, ten: bool) -> Result<(), Refusal>
+    ensures { number_in result ≡ first_of (message_faults s length bits ten) }
 {
-    let there = [
-        length_wrong(length, bits),
-        too_many_bits(bits),
-        too_few_blocks(s, bits),
-        ten,
-    ];
-    bits::first(&[7, 8, 9, 10], &there)
+    bits::first_fault(&[
+        (length_wrong(length, bits), Refusal::MessageBytes),
+        (too_many_bits(bits), Refusal::TooManyBits),
+        (too_few_blocks(s, bits), Refusal::TooFewBlocks),
+        (ten, Refusal::TagBytes),
+    ])
 }
 
 // Whether no whole block of the message has this number. Nothing is multiplied, so nothing wraps.

@@ -1,20 +1,14 @@
 -- What the functions hand back is what the specs say. A start is the refusals of its settings and then that of the declared length
--- (`start-refused`, `start-sound`); the start of a check is a start, then 10, then the purpose (`check-refused`, `check-ten`,
--- `check-fresh`); the tag of an open record has m bits, so that the first bytes of a block that begins with it are its bytes
--- (`room-is`, `judged-is`); the calls counted are those of the definition's list (`calls-listed`).
+-- (`start-order`); the start of a check is a start and then 10 (`check-order`); what the heart says of all keys it says of the record's
+-- (`keyed-for`); the tag of an open record has m bits, so that the first bytes of a block that begins with it are its bytes (`room-is`,
+-- `judged-is`); the calls counted are those of the definition's list (`calls-listed`).
 -- Assumes nothing.
-use mathlib.Core.Path.{◌≡◌, refl, sym, ap, ap₂, ◌∙◌}
-use mathlib.Core.Bool.{Bool, true, false}
-use mathlib.Core.List.{List, [], ◌∷◌, ◌++◌}
-use Prim.Native.Nat.{ℕ, ◌+◌, ◌≤◌}
-use native.Mathlib.Omega.{arith}
-use borrow.Author.Tests.{ne_eqb}
-use lib.ListN.{length, take, drop}
-use Rattle.bits.specs.Choice.{pick, ◌given◌, first_of}
+use Rattle.std.proofs.Common.{◌≡◌, refl, sym, ap, ap₂, ◌∙◌, Bool, true, false, List, [], ◌∷◌, ◌++◌, ℕ, ◌+◌, ◌≤◌, arith, eqb, length, take, drop}
+use Rattle.bits.specs.Choice.{pick, Fault, ◌given◌, first_of}
 use Rattle.bits.specs.Str.{bytes_bits, zeros, same_b}
-use Rattle.block.specs.Block.{storage, front, filled_block}
-use Rattle.bits.proofs.Choice.{miss, pick-ap}
-use Rattle.bits.proofs.Faults.{all, with, Numbered, every_append, first-append, first-append-clear}
+use Rattle.block.specs.Block.{storage, filled_block}
+use Rattle.bits.proofs.Choice.{pick-ap}
+use Rattle.bits.proofs.Faults.{all, with, Numbered, every_append}
 use Rattle.bits.proofs.Same.{Bytes, same_b-bytes}
 use Rattle.bits.proofs.Strings.{length-zeros}
 use Rattle.mac.specs.Padding.{method_at, block_count}
@@ -24,47 +18,41 @@ use Rattle.cipher.specs.Ciphers.{cipher_at}
 use Rattle.cipher.proofs.Laws.{sm4-width, width-at, lawful-at}
 use Rattle.mac.proofs.TagBytes.{take-fits, tag_bytes-block, tag_bytes-fit}
 use Rattle.mac.proofs.Derive.{from-count}
-use Rattle.keys.specs.Given.{given_of}
-use Rattle.settings.specs.InUse.{in_use}
-use Rattle.settings.specs.Answers.{number_of, settings_of, checked_of}
+use Rattle.refusals.proofs.Number.{refusal-numbered}
+use Rattle.settings.specs.InUse.{in_use, agreement_faults}
+use Rattle.settings.specs.Faults.{settings_refusal}
+use Rattle.settings.specs.Answers.{Told, Yes, No, number_of, settings_of}
 use Rattle.settings.specs.declared.Agreement.{Agreement}
 use Rattle.settings.specs.declared.Settings.{Settings}
-use Rattle.settings.specs.declared.Checked.{Checked}
-use Rattle.settings.specs.declared.Checked.TheVariants.{Sound, Unsound}
-use Rattle.settings.specs.declared.Outcome.{Outcome}
-use Rattle.settings.specs.declared.Outcome.TheVariants.{Accepted, Yes, No}
-use Rattle.settings.proofs.Numbers.{number-chosen, sound-chosen}
+use Rattle.settings.proofs.Numbers.{number-chosen}
 use Rattle.settings.proofs.Sound.{agreement-numbered}
 use Rattle.message.specs.Faults.{too_few_blocks, tag_length_wrong}
 use Rattle.message.proofs.Taken.{enough-held}
-use Rattle.tag.proofs.Making.{unsound-first, sound-first}
+use Rattle.chain.specs.Rounds.{rounds_bits, rounds_of}
+use Rattle.chain.specs.Chain.{Each}
+use Rattle.chain.specs.declared.keyed.Keyed.{Keyed}
 use Rattle.chain.proofs.Standing.{reached-at, finish-long}
-use Rattle.session.specs.declared.Purpose.TheVariants.{Checking}
+use Rattle.session.proofs.Open.{declared-few, taken, ended, room-wide}
 use Rattle.session.specs.declared.Session.{Session}
-use Rattle.session.specs.declared.Step.{Step}
-use Rattle.session.specs.Record.{unpacked_in, keys_in, state_in, aimed, declared_too_long}
-use Rattle.session.specs.Calls.{start_faults, refused_start, started_by, start_of, start_under, start_check_faults, fresh_check_of, start_check_of, tag_in, calls_in, judged_of}
+use Rattle.session.specs.Record.{unpacked_in, keys_in, state_in, declared_too_long}
+use Rattle.session.specs.Calls.{Stepped, start_faults, refused_start, started_by, start_of, start_check_faults, tag_in, calls_in, judged_of}
 
 -- the shape of what comes: an answer with a record
-abbrev pub of-step : Step → Outcome
+abbrev pub of-step : Stepped → Told
 of-step r = r.answer
 
 -- what is read of two choices, where it is read alike
 pub chosen-alike : {R T : Type 0} (f : R → T) (b : Bool) {x x' y y' : R} → f x ≡ f x' → f y ≡ f y' → f (pick b x y) ≡ f (pick b x' y')
 chosen-alike f b {x} {x'} {y} {y'} e h = pick-ap f b x y ∙ ap₂ (pick b) e h ∙ sym (pick-ap f b x' y')
 
--- ---- a start: u are the keys in use, c what the builder answered
+-- ---- the order of a start, and of the start of a check
 
-module _ (A : Agreement) (s : List ℕ) (d : ℕ) (u : Keys) (eu : u ≡ in_use A s) (c : Checked) (ec : c ≡ checked_of A (length s) u) where
-  pub start-refused : (k : ℕ) → c ≡ Unsound k → refused_start k ≡ start_of A s d
-  unfolding start_of started_by start_faults
-  start-refused k e = let no = unsound-first A s u eu c ec k e _ in miss _ _ _ _ no.1 (ap refused_start no.0)
-
-  pub start-sound : (S : Settings) → c ≡ Sound S → (g : List ℕ) → g ≡ given_of s → start_under A g u d ≡ start_of A s d
-  unfolding start_of start_under start_faults
-  start-sound S e g eg = let later = (sound-first A s u eu c ec S e (8 given declared_too_long A.padding d ∷ [])).1 in λ i. started_by (sym later i) A (eg i) (eu i) d
-
--- ---- the start of a check: begun is what the start handed back, and no its number
+-- a fault after others counts where none of them is there
+in-turn : (fs : List Fault) (f : Fault) → Numbered fs → first_of (fs ++ (f ∷ [])) ≡ pick (eqb (first_of fs) 0) (first_of (f ∷ [])) (first_of fs)
+unfolding first_of pick
+in-turn [] f all = refl
+in-turn (k given true ∷ fs) f (with h o) = rw h refl
+in-turn (k given false ∷ fs) f (with h o) = in-turn fs f o
 
 module _ (A : Agreement) (s : List ℕ) (d : ℕ) where
   pub start-faults : number_of (start_of A s d).answer ≡ first_of (start_faults A s d)
@@ -79,35 +67,27 @@ module _ (A : Agreement) (s : List ℕ) (d : ℕ) where
   unfolding start_check_faults
   start-check-numbered tag = every_append start-numbered (with refl all)
 
-module _ (A : Agreement) (s : List ℕ) (d : ℕ) (tag : List ℕ) (begun : Step) (same : begun ≡ start_of A s d) (no : ℕ) (told : no ≡ number_of begun.answer) where
-  start-no : no ≡ first_of (start_faults A s d)
-  start-no = told ∙ ap (λ (r : Step). number_of r.answer) same ∙ start-faults A s d
+  -- 8 is judged where the agreement and the keys are sound
+  pub start-order : first_of (start_faults A s d) ≡ pick (eqb (settings_refusal A (length s) (in_use A s)) 0) (pick (declared_too_long A.padding d) 8 0) (settings_refusal A (length s) (in_use A s))
+  unfolding start_faults settings_refusal first_of pick
+  start-order = in-turn (agreement_faults A s) _ (agreement-numbered A s)
 
-  pub check-refused : ¬ (no ≡ 0) → refused_start no ≡ start_check_of A s d tag
-  unfolding start_check_of start_check_faults
-  check-refused u =
-      let first : no ≡ first_of (start_check_faults A s d (length tag)) = start-no ∙ sym (first-append (start_faults A s d) _ (λ z. u (start-no ∙ z))) in
-      miss _ _ _ _ (ne_eqb _ 0 (λ z. u (first ∙ z))) (ap refused_start first)
+  -- 10 where a start is accepted
+  pub check-order : (tag : ℕ) → first_of (start_check_faults A s d tag) ≡ pick (eqb (first_of (start_faults A s d)) 0) (pick (tag_length_wrong A.m tag) 10 0) (first_of (start_faults A s d))
+  unfolding start_check_faults first_of pick
+  check-order tag = in-turn (start_faults A s d) _ start-numbered
 
-  module _ (accepted : no ≡ 0) where
-    -- what is left of the order
-    last-ten : first_of (start_check_faults A s d (length tag)) ≡ first_of (10 given tag_length_wrong A.m (length tag) ∷ [])
-    unfolding start_check_faults
-    last-ten = first-append-clear (start_faults A s d) _ (start-numbered A s d) (sym start-no ∙ accepted)
+-- what the proofs of both look up
+pub ruleset starting = (start-order, check-order, refusal-numbered, declared-few)
 
-    pub check-ten : (wrong : Bool) → wrong ≡ tag_length_wrong A.m (length tag) → wrong ≡ true → refused_start 10 ≡ start_check_of A s d tag
-    unfolding start_check_of first_of pick
-    check-ten wrong e w =
-        let ten : first_of (start_check_faults A s d (length tag)) ≡ 10 = last-ten ∙ ap (λ (b : Bool). first_of (10 given b ∷ [])) (sym e ∙ w) in
-        rw ten refl
+-- and those of a piece and of both finishes
+pub ruleset judging = (refusal-numbered, taken, ended, room-wide)
 
-    pub check-fresh : (wrong : Bool) → wrong ≡ tag_length_wrong A.m (length tag) → wrong ≡ false → (r : Session) (e : List ℕ) → e ≡ front tag → r ≡ aimed Checking e begun.session
-        → record { answer = Accepted; session = r } ≡ start_check_of A s d tag
-    unfolding start_check_of start_of started_by first_of fresh_check_of pick
-    check-fresh wrong ew w r e ef er =
-        let sound : first_of (start_check_faults A s d (length tag)) ≡ 0 = last-ten ∙ ap (λ (b : Bool). first_of (10 given b ∷ [])) (sym ew ∙ w) in
-        let fresh = ap (λ (t : Step). t.session) (same ∙ sound-chosen of-step _ _ _ (sym start-no ∙ accepted)) in
-        sym (sound-chosen of-step _ _ _ sound ∙ ap₂ (λ (x : List ℕ) (t : Session). record { answer = Accepted; session = aimed Checking x t }) (sym ef) (sym fresh) ∙ ap (λ (t : Session). record { answer = Accepted; session = t }) (sym er))
+-- ---- what the heart works under: SM4, an agreement's settings, round keys of the keys K. What it says of all such keys it says of K
+
+module _ (k : Keyed) (A : Agreement) (K : Keys) (cipher : k.cipher ≡ 1) (settings : k.settings ≡ settings_of A) (rounds : rounds_bits k.rounds ≡ rounds_of 1 A.algorithm K) where
+  pub keyed-for : {B : Type 0} (f : ℕ → Settings → Keys → B) {x : B} → Each k (λ L. x ≡ f k.cipher k.settings L) → x ≡ f 1 (settings_of A) K
+  keyed-for f each = each K (rounds ∙ λ i. rounds_of (sym cipher i) (sym settings i).algorithm K) ∙ λ i. f (cipher i) (settings i) K
 
 -- ---- the bytes that are put into the room, and those that are compared
 

@@ -3,14 +3,8 @@
 -- the finish gets 12). So a session that can be finished has an accepted one call (`finished-as-one-call`), and 9 is refused by both or by
 -- neither (`nine-by-both`). The other way round, what one call accepts a session accepts under every cut: `accepting`.
 -- Assumes nothing.
-use mathlib.Core.Path.{◌≡◌, refl, sym, ap, ◌∙◌}
-use mathlib.Core.Bool.{Bool, true, false, not}
-use mathlib.Core.List.{List, [], ◌∷◌}
-use Prim.Native.Nat.{ℕ, ◌≤◌}
-use native.Mathlib.Omega.{arith}
-use borrow.Author.Tests.{eq-eqb, eqb-true, eqb-false, le-ltb}
-use lib.Dec.{eqb, ltb}
-use lib.ListN.{length}
+use Rattle.std.proofs.Common.{◌≡◌, refl, sym, ap, ◌∙◌, Bool, true, false, not, List, [], ◌∷◌, ℕ, ◌≤◌, arith, eq-eqb, eqb-true, le-ltb, eqb, ltb, length}
+use borrow.Author.Tests.{eqb-false}
 use Rattle.bits.specs.Choice.{pick, ◌given◌, first_of}
 use Rattle.bits.specs.Str.{Bits}
 use Rattle.bits.proofs.Faults.{Clear, clear_first, clear-append, first_past, first-append-clear}
@@ -23,18 +17,16 @@ use Rattle.mac.proofs.TagBytes.{length-bits_of}
 use Rattle.cipher.specs.Ciphers.{cipher_at}
 use Rattle.cipher.proofs.Laws.{lawful-at}
 use Rattle.settings.specs.InUse.{agreement_faults}
-use Rattle.settings.specs.Answers.{number_of, settings_of}
+use Rattle.settings.specs.Answers.{number_of, settings_of, Told}
 use Rattle.settings.specs.declared.Agreement.{Agreement}
-use Rattle.settings.specs.declared.Outcome.{Outcome}
 use Rattle.settings.proofs.Numbers.{Unrefused}
 use Rattle.settings.proofs.Sound.{agreement-numbered}
-use Rattle.message.specs.Faults.{length_wrong, too_many_bits, too_few_blocks, room_short, message_faults}
+use Rattle.message.specs.Faults.{too_few_blocks, room_short, message_faults}
 use Rattle.tag.specs.OneCall.{one_call_faults, made_by, make_of}
 use Rattle.tag.proofs.Numbers.{made_of, make-faults, sound-made, made-of}
 use Rattle.session.specs.declared.Session.{Session}
-use Rattle.session.specs.declared.Step.{Step}
+use Rattle.session.specs.Calls.{Stepped, start_faults, fresh_of, declared_at, start_of, falls_short, end_faults, finish_faults, finish_of}
 use Rattle.session.specs.Record.{standing, is_check}
-use Rattle.session.specs.Calls.{start_faults, fresh_of, declared_at, start_of, falls_short, end_faults, finish_faults, finish_of}
 use Rattle.session.proofs.Open.{opens, ended}
 use Rattle.session.proofs.Stood.{stood}
 use Rattle.session.proofs.OneStep.{finish-faults, finish-sound}
@@ -64,14 +56,14 @@ stood-faults A s d x room = refl
 module _ (A : Agreement) (s : List ℕ) (d : ℕ) (g : Clear (start_faults A s d)) (x : Bits) (runs : Running (stood A s d x)) where
   -- 11 and 12 are not there
   pub end-last : (A.padding ≡ 3 → d ≡ length x) → (ten : Bool) → first_of (end_faults (stood A s d x) false ten) ≡ last_two A (length x) ten
-  unfolding end_faults falls_short stood standing fresh_of
+  unfolding end_faults stood standing fresh_of
   end-last met ten =
       first_past 11 _ _ runs ∙ first_past 11 _ _ refl
       ∙ first_past 12 _ _ (kept-no A.padding d (λ k. ltb (length x) k) (three-no A.padding _ (λ e. le-ltb (length x) d (omega (arith, met e)))))
 
   -- 1 to 5 are not there, nor 7 and 8
   pub one-call-last : (bytes : List ℕ) (l : ℕ) → Holds bytes l x → (ten : Bool) → first_of (one_call_faults A s (length bytes) l ten) ≡ last_two A (length x) ten
-  unfolding one_call_faults start_faults message_faults length_wrong too_many_bits stood standing fresh_of
+  unfolding one_call_faults start_faults message_faults stood standing fresh_of
   one-call-last bytes l h ten =
       first-append-clear (agreement_faults A s) _ (agreement-numbered A s) (clear_first (clear-append (agreement_faults A s) _ g).0)
       ∙ first_past 7 _ _ (ap not (eq-eqb (length bytes) (bytes_for l) h.long))
@@ -95,14 +87,14 @@ module _ (A : Agreement) (s : List ℕ) (d : ℕ) (g : Clear (start_faults A s d
       go : (b : Bool) → eqb no 0 ≡ b → ((finish_of (stood A s d x) room).0.answer, (finish_of (stood A s d x) room).1) ≡ make_of A s bytes l room
       go true e =
           let z = eqb-true no 0 e in
-          ap (λ (r : Step × List ℕ). (r.0.answer, r.1)) (finish-stood A s d x room z)
+          ap (λ (r : Stepped × List ℕ). (r.0.answer, r.1)) (finish-stood A s d x room z)
           ∙ sym (sound-made A s bytes l room (sym same ∙ z) ∙ ap (λ (w : Bits). made_of A s w room) h.bits)
       go false e = rw (e, sym same, e) refl
 
 -- ---- 9 under padding 3: never, for L and a block of the message are two
 
 never-few : (A : Agreement) (l : ℕ) → A.padding ≡ 3 → too_few_blocks (settings_of A) l ≡ false
-unfolding too_few_blocks needed
+unfolding needed
 never-few A l e =
     le-ltb (block_count (method_at A.padding) (cipher_at 1).n l) (row (algorithm_at A.algorithm)).least (omega (arith, least-two (algorithm_at A.algorithm), count-three (cipher_at 1).n l (lawful-at 1).wide A.padding e))
 
@@ -153,10 +145,10 @@ module _ (A : Agreement) (s : List ℕ) (d : ℕ) (u : Unrefused (start_of A s d
   abbrev b : Begun
   b = to_make A s d
 
-  abbrev one : Outcome × List ℕ
+  abbrev one : Told × List ℕ
   one = make_of A s bytes l room
 
-  abbrev end : Step × List ℕ
+  abbrev end : Stepped × List ℕ
   end = finished A s d cs room
 
   pub ends-as-one-call : Running (record-after b cs) → (A.padding ≡ 3 → d ≡ length (message b cs)) → (end.0.answer, end.1) ≡ one
@@ -180,7 +172,7 @@ module _ (A : Agreement) (s : List ℕ) (d : ℕ) (u : Unrefused (start_of A s d
           sym (declared-kept A.padding d e) ∙ met_at
 
       accepted : Unrefused one.0
-      accepted = ap (λ (r : Outcome × List ℕ). number_of r.0) (sym (ends-as-one-call runs met)) ∙ f
+      accepted = ap (λ (r : Told × List ℕ). number_of r.0) (sym (ends-as-one-call runs met)) ∙ f
 
   pub nine-by-both : Running (record-after b cs) → (number_of end.0.answer ≡ 9 → number_of one.0 ≡ 9) × (number_of one.0 ≡ 9 → number_of end.0.answer ≡ 9)
   nine-by-both runs =

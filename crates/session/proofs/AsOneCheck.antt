@@ -4,32 +4,23 @@
 -- yes exactly where the tag is the defined one (`yes-exactly`); 9 is refused by both or by neither (`nine-by-both-checks`). The other
 -- way round, what one call accepts a session accepts under every cut: `accepting-check`.
 -- Assumes nothing.
-use mathlib.Core.Path.{◌≡◌, refl, sym, ap, ◌∙◌}
-use mathlib.Core.Bool.{Bool, true, false}
-use mathlib.Core.List.{List}
-use Prim.Native.Nat.{ℕ}
-use borrow.Author.Tests.{eqb-true}
-use lib.Dec.{eqb}
-use lib.ListN.{length}
+use Rattle.std.proofs.Common.{◌≡◌, refl, sym, ap, ◌∙◌, Bool, true, false, List, ℕ, eqb-true, eqb, length}
 use Rattle.bits.specs.Choice.{pick, first_of}
 use Rattle.bits.specs.Str.{Bits}
 use Rattle.bits.proofs.Faults.{clear-one}
 use Rattle.bits.proofs.Same.{same_row-true, same_row-eq}
 use Rattle.block.specs.Block.{front}
 use Rattle.settings.specs.InUse.{unpacked, in_use}
-use Rattle.settings.specs.Answers.{number_of}
+use Rattle.settings.specs.Answers.{number_of, Told, Yes, No}
 use Rattle.settings.specs.declared.Agreement.{Agreement}
-use Rattle.settings.specs.declared.Outcome.{Outcome}
-use Rattle.settings.specs.declared.Outcome.TheVariants.{Yes, No}
 use Rattle.settings.proofs.Numbers.{Unrefused}
 use Rattle.message.specs.Faults.{tag_length_wrong}
 use Rattle.tag.specs.OneCall.{one_call_faults, checked_by, check_of}
 use Rattle.tag.proofs.Numbers.{tagged, listed, verdict_of, check-faults, sound-checked, checked-of, yes-tested}
 use Rattle.session.specs.declared.Purpose.TheVariants.{Checking}
 use Rattle.session.specs.declared.Session.{Session}
-use Rattle.session.specs.declared.Step.{Step}
+use Rattle.session.specs.Calls.{Stepped, start_check_of, end_faults, finish_check_faults, finish_check_of}
 use Rattle.session.specs.Record.{cleared, aimed, is_check, counts_closed}
-use Rattle.session.specs.Calls.{start_check_of, end_faults, finish_check_faults, finish_check_of}
 use Rattle.session.proofs.Open.{ended}
 use Rattle.session.proofs.Purposes.{aimed-closed, aimed-end}
 use Rattle.session.proofs.Stood.{stood}
@@ -71,7 +62,7 @@ module _ (A : Agreement) (s : List ℕ) (d : ℕ) (tag : List ℕ) (u : Unrefuse
         go : (b : Bool) → eqb no 0 ≡ b → (finish_check_of r).answer ≡ check_of A s bytes l tag
         go true e =
             let z = eqb-true no 0 e in
-            ap (λ (t : Step). t.answer) (check-stood A s d x (front tag) tag (expected-tag A s d tag u) z)
+            ap (λ (t : Stepped). t.answer) (check-stood A s d x (front tag) tag (expected-tag A s d tag u) z)
             ∙ sym (sound-checked A s bytes l tag (sym same ∙ z) ∙ ap (λ (w : Bits). verdict_of A s w tag) h.bits)
         go false e = rw (e, sym same, e) refl
 
@@ -84,7 +75,7 @@ module _ (A : Agreement) (s : List ℕ) (d : ℕ) (tag : List ℕ) (u : Unrefuse
   abbrev x : Bits
   x = message b cs
 
-  abbrev end : Step
+  abbrev end : Stepped
   end = checked A s d tag cs
 
   -- the record that stands for the bits runs for either purpose
@@ -94,7 +85,7 @@ module _ (A : Agreement) (s : List ℕ) (d : ℕ) (tag : List ℕ) (u : Unrefuse
   pub yes-exactly : Unrefused end.answer → ((k : ℕ) → end.answer ≡ Yes k → tag ≡ tagged A (in_use A s) x) × (tag ≡ tagged A (in_use A s) x → end.answer ≡ Yes (listed A (unpacked A s) x))
   unfolding pick
   yes-exactly f =
-      let e = ap (λ (t : Step). t.answer) (joined-check A s d tag u cs f) in
+      let e = ap (λ (t : Stepped). t.answer) (joined-check A s d tag u cs f) in
       let calls = listed A (unpacked A s) x in (
         λ k says. same_row-eq tag _ (yes-tested true _ calls 0 k (sym e ∙ says)),
         λ same. e ∙ ap (λ (t : Bool). pick t (Yes calls) (No calls)) (same_row-true tag _ same),
@@ -107,7 +98,7 @@ module _ (A : Agreement) (s : List ℕ) (d : ℕ) (tag : List ℕ) (u : Unrefuse
     pub checked-as-one-call : Unrefused end.answer → Unrefused (check_of A s bytes l tag) × (end ≡ record { answer = check_of A s bytes l tag; session = cleared })
     unfolding finish_check_faults
     checked-as-one-call f =
-        (accepted, joined-check A s d tag u cs f ∙ ap (λ (o : Outcome). record { answer = o; session = cleared }) (sym (checked-of A s bytes l tag accepted ∙ ap (λ (w : Bits). verdict_of A s w tag) h.bits)))
+        (accepted, joined-check A s d tag u cs f ∙ ap (λ (o : Told). record { answer = o; session = cleared }) (sym (checked-of A s bytes l tag accepted ∙ ap (λ (w : Bits). verdict_of A s w tag) h.bits)))
       where
         runs : Running (record-after b cs)
         runs = finish-check-runs (record-after b cs) f

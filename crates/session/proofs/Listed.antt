@@ -1,10 +1,7 @@
 -- Which numbers a call of a session can answer: 0 and those of its order, of every answer that the contracts allow (`start-answers`,
 -- `start-check-answers`, `piece-answers`, `finish-answers`, `finish-check-answers`). The retired 6 is not among them.
 -- Assumes nothing.
-use mathlib.Core.Path.{refl, sym, subst}
-use mathlib.Core.Bool.{not}
-use mathlib.Core.List.{List, [], ◌∷◌}
-use Prim.Native.Nat.{ℕ}
+use Rattle.std.proofs.Common.{refl, sym, subst, not, List, [], ◌∷◌, ℕ}
 use contract.Lifetimes.{Lfts}
 use borrow.Fn.Kinds.{Dens}
 use Rattle.bits.specs.Choice.{pick, Fault, ◌given◌, first_of, one_of}
@@ -15,9 +12,8 @@ use Rattle.settings.proofs.Sound.{agreement-every}
 use Rattle.settings.proofs.Listed.{Among, among}
 use Rattle.message.specs.Faults.{too_few_blocks}
 use Rattle.session.specs.declared.Session.{Session}
-use Rattle.session.specs.declared.Step.{Step}
+use Rattle.session.specs.Calls.{Stepped, stepped, start_faults, start_of, start_check_faults, start_check_of, piece_faults, piece_of, falls_short, end_faults, finish_faults, finish_of, finish_check_faults, finish_check_of}
 use Rattle.session.specs.Record.{is_check, counts_closed}
-use Rattle.session.specs.Calls.{start_faults, start_of, start_check_faults, start_check_of, piece_faults, piece_of, falls_short, end_faults, finish_faults, finish_of, finish_check_faults, finish_check_of}
 use Rattle.session.proofs.start.Kinds as start-k
 use Rattle.session.proofs.start_check.Kinds as start-check-k
 use Rattle.session.proofs.Session.piece.Kinds as piece-k
@@ -81,17 +77,17 @@ module _ (s : Session) where
 -- ---- of every answer
 
 module _ (κs : Lfts 1) where
-  pub start-answers : (a : Dens κs start-k.ps) (x : Started κs a) → Among start_answers (number_of x.result.answer)
-  start-answers a x = subst (λ (r : Step). Among start_answers (number_of r.answer)) (sym x.ensures) (start-among a.0 a.1.0.now a.1.1.0)
+  pub start-answers : (a : Dens κs start-k.ps) (x : Started κs a) → Among start_answers (number_of (stepped x.result).answer)
+  start-answers a x = subst (λ (r : Stepped). Among start_answers (number_of r.answer)) (sym x.ensures) (start-among a.0 a.1.0.now a.1.1.0)
 
-  pub piece-answers : (a : Dens κs piece-k.ps) (x : Pieced κs a) → Among piece_answers (number_of x.result.answer)
-  piece-answers a x = subst (λ (r : Step). Among piece_answers (number_of r.answer)) (sym x.ensures) (piece-among a.0 a.1.0.now a.1.1.0)
+  pub piece-answers : (a : Dens κs piece-k.ps) (x : Pieced κs a) → Among piece_answers (number_of (stepped x.result).answer)
+  piece-answers a x = subst (λ (r : Stepped). Among piece_answers (number_of r.answer)) (sym x.ensures) (piece-among a.0 a.1.0.now a.1.1.0)
 
-  pub finish-answers : (a : Dens κs finish-k.ps) (x : Finished κs a) → Among finish_answers (number_of x.result.answer)
-  finish-answers a x = subst (λ (r : Step × List ℕ). Among finish_answers (number_of r.0.answer)) (sym x.ensures) (finish-among a.0 a.1.0.now)
+  pub finish-answers : (a : Dens κs finish-k.ps) (x : Finished κs a) → Among finish_answers (number_of (stepped x.result).answer)
+  finish-answers a x = subst (λ (r : Stepped × List ℕ). Among finish_answers (number_of r.0.answer)) (sym x.ensures) (finish-among a.0 a.1.0.now)
 
-pub start-check-answers : (κs : Lfts 2) (a : Dens κs start-check-k.ps) (x : StartedCheck κs a) → Among start_check_answers (number_of x.result.answer)
-start-check-answers κs a x = subst (λ (r : Step). Among start_check_answers (number_of r.answer)) (sym x.ensures) (start-check-among a.0 a.1.0.now a.1.1.0 a.1.1.1.0.now)
+pub start-check-answers : (κs : Lfts 2) (a : Dens κs start-check-k.ps) (x : StartedCheck κs a) → Among start_check_answers (number_of (stepped x.result).answer)
+start-check-answers κs a x = subst (λ (r : Stepped). Among start_check_answers (number_of r.answer)) (sym x.ensures) (start-check-among a.0 a.1.0.now a.1.1.0 a.1.1.1.0.now)
 
-pub finish-check-answers : (κs : Lfts 0) (a : Dens κs finish-check-k.ps) (x : FinishedCheck κs a) → Among finish_check_answers (number_of x.result.answer)
-finish-check-answers κs a x = subst (λ (r : Step). Among finish_check_answers (number_of r.answer)) (sym x.ensures) (finish-check-among a.0)
+pub finish-check-answers : (κs : Lfts 0) (a : Dens κs finish-check-k.ps) (x : FinishedCheck κs a) → Among finish_check_answers (number_of (stepped x.result).answer)
+finish-check-answers κs a x = subst (λ (r : Stepped). Among finish_check_answers (number_of r.answer)) (sym x.ensures) (finish-check-among a.0)

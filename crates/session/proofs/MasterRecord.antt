@@ -3,12 +3,7 @@
 -- these bytes (`piece-unread`), and both finishes answer as before (`finish-unread`, `check-unread`). And so of every answer that the
 -- contracts allow: `started-keeps`, `pieced-alike`, `finished-alike`, `checked-alike`.
 -- Assumes nothing.
-use mathlib.Core.Path.{◌≡◌, refl, sym, ap, ap₂, ◌∙◌}
-use mathlib.Core.Bool.{Bool, true, false, not}
-use mathlib.Core.List.{List, ◌++◌}
-use Prim.Native.Nat.{ℕ, ◌+◌}
-use native.Mathlib.Omega.{arith}
-use lib.ListN.{length, replicate, drop_of_length-le}
+use Rattle.std.proofs.Common.{◌≡◌, refl, sym, ap, ap₂, ◌∙◌, Bool, true, false, not, List, ◌++◌, ℕ, ◌+◌, arith, length, replicate, drop_of_length-le}
 use contract.Lifetimes.{Lfts}
 use borrow.Fn.Kinds.{Dens}
 use Rattle.bits.specs.Str.{Bits}
@@ -25,12 +20,13 @@ use Rattle.keys.specs.Given.{unpack_of, given_of}
 use Rattle.keys.proofs.GivenKeys.{master-alone}
 use Rattle.settings.specs.Answers.{number_of}
 use Rattle.settings.specs.declared.Agreement.{Agreement}
+use Rattle.settings.proofs.Told.{same-told}
 use Rattle.settings.proofs.Numbers.{Unrefused}
 use Rattle.message.specs.Faults.{room_short}
 use Rattle.session.specs.declared.Session.{Session}
-use Rattle.session.specs.declared.Step.{Step}
+use Rattle.session.specs.Calls.{Stepped, stepped, fresh_of, start_of, piece_faults, fed_of, piece_of, end_faults, finish_faults, tag_in, calls_in, finish_of, finish_check_faults, judged_of, finish_check_of}
 use Rattle.session.specs.Record.{keys_in, standing, state_in, is_check, closed_faults, counts_closed}
-use Rattle.session.specs.Calls.{fresh_of, start_of, piece_faults, fed_of, piece_of, end_faults, finish_faults, tag_in, calls_in, finish_of, finish_check_faults, judged_of, finish_check_of}
+use Rattle.session.proofs.Told.{same-stepped}
 use Rattle.session.proofs.Stood.{stood}
 use Rattle.session.proofs.Answers.{of-step, chosen-alike}
 use Rattle.session.proofs.OneStep.{of_end}
@@ -51,20 +47,11 @@ start-keeps A s d u h = ap (λ (t : Session). t.keys) (start-stood A s d u) ∙ 
 
 -- the record with other bytes in place of its keys
 unfoldable pub with_keys : List ℕ → Session → Session
-with_keys k s = record {
-  phase = s.phase;
-  purpose = s.purpose;
-  agreement = s.agreement;
-  declared = s.declared;
-  total = s.total;
-  keys = k;
-  hold = s.hold;
-  expected = s.expected;
-}
+with_keys k s = record s { keys = k }
 
 -- a step with other bytes in place of its record's keys
-abbrev with_keys_in : List ℕ → Step → Step
-with_keys_in k r = record { answer = r.answer; session = with_keys k r.session }
+abbrev with_keys_in : List ℕ → Stepped → Stepped
+with_keys_in k r = record r { session = with_keys k r.session }
 
 module _ (s : Session) (k : List ℕ) (master : s.agreement.master ≡ true) (alone : (row (algorithm_at s.agreement.algorithm)).third ≡ false) (same : front k ≡ front s.keys) where
   abbrev A : Agreement
@@ -111,7 +98,7 @@ module _ (s : Session) (k : List ℕ) (master : s.agreement.master ≡ true) (al
   -- neither the answer nor the room depends on the record that a refusal hands back
   pub finish-unread : (room : List ℕ) → let other = finish_of (with_keys k s) room in let own = finish_of s room in (other.0.answer ≡ own.0.answer) × (other.1 ≡ own.1)
   unfolding finish_of finish_faults with_keys
-  finish-unread room = rw (end-faults (is_check s.purpose) (room_short A.m (length room)), tag_same, calls_same) (chosen-alike of_end _ refl refl, chosen-alike (λ (r : Step × List ℕ). r.1) _ refl refl)
+  finish-unread room = rw (end-faults (is_check s.purpose) (room_short A.m (length room)), tag_same, calls_same) (chosen-alike of_end _ refl refl, chosen-alike (λ (r : Stepped × List ℕ). r.1) _ refl refl)
 
   pub check-unread : (finish_check_of (with_keys k s)).answer ≡ (finish_check_of s).answer
   unfolding finish_check_of finish_check_faults judged_of with_keys
@@ -120,10 +107,10 @@ module _ (s : Session) (k : List ℕ) (master : s.agreement.master ≡ true) (al
 -- ---- and so of every answer that the contracts allow
 
 module _ (κs : Lfts 1) (a : Dens κs start-k.ps) (x : Started κs a) where
-  pub started-keeps : Unrefused x.result.answer → length a.1.0.now ≡ 16 → x.result.session.keys ≡ a.1.0.now ++ replicate 16 0
+  pub started-keeps : Unrefused (stepped x.result).answer → length a.1.0.now ≡ 16 → x.result.session.keys ≡ a.1.0.now ++ replicate 16 0
   started-keeps u h =
       let e = x.ensures in
-      ap (λ (t : Step). t.session.keys) e ∙ start-keeps a.0 a.1.0.now a.1.1.0 (ap (λ (t : Step). number_of t.answer) (sym e) ∙ u) h
+      ap (λ (t : Stepped). t.session.keys) e ∙ start-keeps a.0 a.1.0.now a.1.1.0 (ap (λ (t : Stepped). number_of t.answer) (sym e) ∙ u) h
 
 -- a record under a master that is given alone, and the record with other bytes that begin as its keys do
 pub record Alike (s t : Session) : Type 0 where
@@ -134,22 +121,24 @@ pub record Alike (s t : Session) : Type 0 where
   pub other : t ≡ with_keys bytes s
 
 module _ (κs : Lfts 1) (a : Dens κs piece-k.ps) (x : Pieced κs a) (λs : Lfts 1) (b : Dens λs piece-k.ps) (y : Pieced λs b) where
-  pub pieced-alike : (h : Alike a.0 b.0) → b.1.0.now ≡ a.1.0.now → b.1.1.0 ≡ a.1.1.0 → y.result ≡ with_keys_in h.bytes x.result
+  pub pieced-alike : (h : Alike a.0 b.0) → b.1.0.now ≡ a.1.0.now → b.1.1.0 ≡ a.1.1.0 → y.result ≡ record { answer = x.result.answer; session = with_keys h.bytes x.result.session }
   pieced-alike h bytes bits =
-      y.ensures ∙ (λ i. piece_of (h.other i) (bytes i) (bits i)) ∙ piece-unread a.0 h.bytes h.master h.alone h.same a.1.0.now a.1.1.0
-      ∙ ap (with_keys_in h.bytes) (sym x.ensures)
+      same-stepped y.result (record { answer = x.result.answer; session = with_keys h.bytes x.result.session })
+      (y.ensures ∙ (λ i. piece_of (h.other i) (bytes i) (bits i)) ∙ piece-unread a.0 h.bytes h.master h.alone h.same a.1.0.now a.1.1.0
+      ∙ ap (with_keys_in h.bytes) (sym x.ensures))
 
 module _ (κs : Lfts 1) (a : Dens κs finish-k.ps) (x : Finished κs a) (λs : Lfts 1) (b : Dens λs finish-k.ps) (y : Finished λs b) where
   pub finished-alike : Alike a.0 b.0 → b.1.0.now ≡ a.1.0.now → (y.result.answer ≡ x.result.answer) × (y.last.1.0 ≡ x.last.1.0)
   finished-alike h room =
       let both = finish-unread a.0 h.bytes h.master h.alone h.same a.1.0.now in
       let ended = y.ensures ∙ ap₂ finish_of h.other room in (
-        ap (λ (r : Step × List ℕ). r.0.answer) ended ∙ both.0 ∙ sym (ap (λ (r : Step × List ℕ). r.0.answer) x.ensures),
-        ap (λ (r : Step × List ℕ). r.1) ended ∙ both.1 ∙ sym (ap (λ (r : Step × List ℕ). r.1) x.ensures),
+        same-told _ _ (ap (λ (r : Stepped × List ℕ). r.0.answer) ended ∙ both.0 ∙ sym (ap (λ (r : Stepped × List ℕ). r.0.answer) x.ensures)),
+        ap (λ (r : Stepped × List ℕ). r.1) ended ∙ both.1 ∙ sym (ap (λ (r : Stepped × List ℕ). r.1) x.ensures),
       )
 
 module _ (κs : Lfts 0) (a : Dens κs check-k.ps) (x : FinishedCheck κs a) (λs : Lfts 0) (b : Dens λs check-k.ps) (y : FinishedCheck λs b) where
   pub checked-alike : Alike a.0 b.0 → y.result.answer ≡ x.result.answer
   checked-alike h =
-      ap (λ (r : Step). r.answer) (y.ensures ∙ ap finish_check_of h.other) ∙ check-unread a.0 h.bytes h.master h.alone h.same
-      ∙ sym (ap (λ (r : Step). r.answer) x.ensures)
+      same-told _ _
+      (ap (λ (r : Stepped). r.answer) (y.ensures ∙ ap finish_check_of h.other) ∙ check-unread a.0 h.bytes h.master h.alone h.same
+      ∙ sym (ap (λ (r : Stepped). r.answer) x.ensures))

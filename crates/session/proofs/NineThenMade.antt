@@ -2,13 +2,7 @@
 -- and padding 1, sixteen bytes come, a finish gets 9 and hands the record back, one bit more comes, and the next finish makes the tag
 -- of the 129 bits with four calls. So the theorems about runs with refused calls are about something (`nine-first`, `then-made`).
 -- Assumes nothing.
-use mathlib.Core.Path.{◌≡◌, refl, sym, ap, ap₂, ◌∙◌}
-use mathlib.Core.Bool.{true, false}
-use mathlib.Core.List.{List, [], ◌∷◌, ◌++◌, map, append-nil}
-use Prim.Native.Nat.{ℕ, ◌+◌, ◌*◌}
-use native.Mathlib.Omega.{arith}
-use lib.ListN.{length, replicate}
-use lib.Seq.{take_all}
+use Rattle.std.proofs.Common.{◌≡◌, refl, sym, ap, ap₂, ◌∙◌, true, false, List, [], ◌∷◌, ◌++◌, map, append-nil, ℕ, ◌+◌, ◌*◌, arith, length, replicate, take_all}
 use Rattle.bits.specs.Choice.{pick}
 use Rattle.bits.specs.Str.{Bits, bytes_bits, zeros}
 use Rattle.bits.proofs.Faults.{Clear, first-clear, here, later, given-first}
@@ -19,10 +13,8 @@ use Rattle.mac.specs.Algorithm.{algorithm_at}
 use Rattle.mac.specs.Tag.{bits_of, bytes_for}
 use Rattle.mac.specs.Session.{joined}
 use Rattle.mac.proofs.TagBytes.{length-bits_of, bits_of-append}
-use Rattle.settings.specs.Answers.{number_of, settings_of}
+use Rattle.settings.specs.Answers.{number_of, settings_of, Told, Made}
 use Rattle.settings.specs.declared.Agreement.{Agreement}
-use Rattle.settings.specs.declared.Outcome.{Outcome}
-use Rattle.settings.specs.declared.Outcome.TheVariants.{Made}
 use Rattle.settings.proofs.Numbers.{Unrefused}
 use Rattle.message.specs.Faults.{too_few_blocks, room_short}
 use Rattle.tag.specs.OneCall.{one_call_faults, make_of}
@@ -32,7 +24,7 @@ use Rattle.tag.proofs.SameUse.{listed-count}
 use Rattle.session.specs.declared.Purpose.TheVariants.{Making}
 use Rattle.session.specs.declared.Session.{Session}
 use Rattle.session.specs.Record.{standing, is_check}
-use Rattle.session.specs.Calls.{fresh_of, start_of, falls_short, end_faults, finish_faults, finish_of}
+use Rattle.session.specs.Calls.{fresh_of, start_of, end_faults, finish_faults, finish_of}
 use Rattle.session.proofs.Purposes.{aimed-closed}
 use Rattle.session.proofs.Stood.{stood, stood-making}
 use Rattle.session.proofs.OneStep.{Offered, bits_in, finish-faults, refused-finish}
@@ -92,7 +84,7 @@ module _ (s : List ℕ) (m : ℕ) (block : List ℕ) (byte : ℕ) (room : List �
       ∙ stood-making (four m) s 129 halfway
 
   pub nine-first : number_of (finish_of (handed begun (offers whole ∷ [])) room).0.answer ≡ 9
-  unfolding finish_faults end_faults is_check falls_short stood standing fresh_of too_few_blocks block_count prefix suffix gap complete zeros pick method_at algorithm_at cipher_at
+  unfolding finish_faults end_faults is_check stood standing fresh_of block_count prefix suffix gap complete zeros pick method_at algorithm_at cipher_at
   nine-first =
       ap (λ (t : Session). number_of (finish_of t room).0.answer) at-half ∙ finish-faults (stood (four m) s 129 halfway) room
       ∙ given-first (later (sym (aimed-closed Making (replicate 16 0) (stood (four m) s 129 halfway)) ∙ stays_open Making (replicate 16 0) (four m) s (length all) 129 (room_short m (length room)) clear halfway (omega (arith, long-half))) (later refl (later refl (here few))))
@@ -113,5 +105,5 @@ module _ (s : List ℕ) (m : ℕ) (block : List ℕ) (byte : ℕ) (room : List �
   pub four-calls : (make_of (four m) s all 129 room).0 ≡ Made 4
   unfolding block_count prefix suffix gap complete zeros pick method_at algorithm_at cipher_at
   four-calls =
-      ap (λ (r : Outcome × List ℕ). r.0) (made-of (four m) s all 129 room u)
+      ap (λ (r : Told × List ℕ). r.0) (made-of (four m) s all 129 room u)
       ∙ ap Made (listed-count (four m) s all 129 room (make-sound (four m) s all 129 room u))

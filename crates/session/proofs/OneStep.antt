@@ -3,25 +3,19 @@
 -- `finish-clears`, `finish-check-closes`); a refused one hands back the very record (`refused-piece`, `refused-finish`,
 -- `refused-check`).
 -- Assumes nothing.
-use mathlib.Core.Path.{◌≡◌, refl, sym, ap, ◌∙◌}
-use mathlib.Core.List.{List, [], ◌∷◌}
-use Prim.Native.Nat.{ℕ}
-use lib.ListN.{length}
+use Rattle.std.proofs.Common.{◌≡◌, refl, sym, ap, ◌∙◌, List, [], ◌∷◌, ℕ, length}
 use Rattle.bits.specs.Choice.{◌given◌, first_of}
 use Rattle.bits.specs.Str.{Bits}
 use Rattle.bits.proofs.Faults.{Clear, first-clear, clear-append}
 use Rattle.mac.specs.Tag.{bits_of}
-use Rattle.settings.specs.Answers.{number_of}
+use Rattle.settings.specs.Answers.{number_of, Told, Accepted, Refused}
 use Rattle.settings.specs.declared.Agreement.{Agreement}
-use Rattle.settings.specs.declared.Outcome.{Outcome}
-use Rattle.settings.specs.declared.Outcome.TheVariants.{Accepted, Refused}
 use Rattle.settings.proofs.Numbers.{Unrefused, number-chosen, sound-chosen, refused-chosen}
 use Rattle.message.specs.Faults.{tag_length_wrong}
 use Rattle.tag.proofs.Numbers.{alike}
 use Rattle.session.specs.declared.Session.{Session}
-use Rattle.session.specs.declared.Step.{Step}
+use Rattle.session.specs.Calls.{Stepped, start_faults, refused_start, start_check_faults, start_check_of, piece_faults, fed_of, piece_of, finish_faults, finish_check_faults, calls_in, finish_of, judged_of, finish_check_of}
 use Rattle.session.specs.Record.{cleared}
-use Rattle.session.specs.Calls.{start_faults, refused_start, start_check_faults, start_check_of, piece_faults, fed_of, piece_of, finish_faults, finish_check_faults, calls_in, finish_of, judged_of, finish_check_of}
 use Rattle.session.proofs.Answers.{of-step, start-check-numbered}
 
 -- ---- the start of a check
@@ -45,7 +39,7 @@ pub record Offered : Type 0 where
 abbrev pub bits_in : Offered → Bits
 bits_in q = bits_of q.bytes q.bits
 
-abbrev pub offer : Session → Offered → Step
+abbrev pub offer : Session → Offered → Stepped
 offer s q = piece_of s q.bytes q.bits
 
 pub piece-faults : (s : Session) (q : Offered) → number_of (offer s q).answer ≡ first_of (piece_faults s (length q.bytes) q.bits)
@@ -66,12 +60,12 @@ pub refused-piece : RefusedPiece
 unfolding piece_of number_of
 refused-piece s q u =
     let n = first_of (piece_faults s (length q.bytes) q.bits) in
-    ap (λ (r : Step). r.session) (refused-chosen of-step n (record { answer = Accepted; session = fed_of s (bits_in q) }) (record { answer = Refused n; session = s }) refl u)
+    ap (λ (r : Stepped). r.session) (refused-chosen of-step n (record { answer = Accepted; session = fed_of s (bits_in q) }) (record { answer = Refused n; session = s }) refl u)
 
 -- ---- a finish
 
 -- the shape of what comes: an answer with a record and a room
-abbrev pub of_end : Step × List ℕ → Outcome
+abbrev pub of_end : Stepped × List ℕ → Told
 of_end r = r.0.answer
 
 pub finish-faults : (s : Session) (room : List ℕ) → number_of (finish_of s room).0.answer ≡ first_of (finish_faults s (length room))
@@ -83,7 +77,7 @@ finish-sound s room u = sym (finish-faults s room) ∙ u
 
 pub finish-clears : (s : Session) (room : List ℕ) → Unrefused (finish_of s room).0.answer → (finish_of s room).0.session ≡ cleared
 unfolding finish_of
-finish-clears s room u = ap (λ (r : Step × List ℕ). r.0.session) (sound-chosen of_end _ _ _ (finish-sound s room u))
+finish-clears s room u = ap (λ (r : Stepped × List ℕ). r.0.session) (sound-chosen of_end _ _ _ (finish-sound s room u))
 
 abbrev pub RefusedFinish : Type 0
 RefusedFinish = (s : Session) (room : List ℕ) → ¬ (Unrefused (finish_of s room).0.answer) → ((finish_of s room).0.session ≡ s) × ((finish_of s room).1 ≡ room)
@@ -93,7 +87,7 @@ unfolding finish_of number_of
 refused-finish s room u =
     let n = first_of (finish_faults s (length room)) in
     let e = refused-chosen of_end n _ (record { answer = Refused n; session = s }, room) refl u in
-    (ap (λ (r : Step × List ℕ). r.0.session) e, ap (λ (r : Step × List ℕ). r.1) e)
+    (ap (λ (r : Stepped × List ℕ). r.0.session) e, ap (λ (r : Stepped × List ℕ). r.1) e)
 
 -- ---- the finish of a check
 
@@ -121,4 +115,4 @@ pub refused-check : RefusedCheck
 unfolding finish_check_of
 refused-check s u =
     let n = first_of (finish_check_faults s) in
-    ap (λ (r : Step). r.session) (refused-chosen of-step n _ (record { answer = Refused n; session = s }) (judged-number s) u)
+    ap (λ (r : Stepped). r.session) (refused-chosen of-step n _ (record { answer = Refused n; session = s }) (judged-number s) u)

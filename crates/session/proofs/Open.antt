@@ -2,12 +2,9 @@
 -- accepted piece (`taken`) and of a finish that is not refused (`ended`). Each is read off its list of tests, all of which say no;
 -- `declared-few` is what the test of a start says of the length that it keeps.
 -- Assumes nothing.
-use mathlib.Core.Path.{◌≡◌, refl, sym, ap, ◌∙◌}
-use mathlib.Core.Bool.{Bool, true, false, not, ◌&&◌, false≢true}
-use Prim.Native.Nat.{ℕ, ◌+◌, ◌*◌, ◌%◌, ◌≤◌, ◌<◌}
-use native.Mathlib.Omega.{arith}
-use borrow.Author.Tests.{eqb-true, ltb-false, eqb-false, eq-eqb, ne_eqb, not-false}
-use lib.Dec.{eqb, ltb}
+use Rattle.std.proofs.Common.{◌≡◌, refl, sym, ap, ◌∙◌, Bool, true, false, not, ◌&&◌, ℕ, ◌+◌, ◌*◌, ◌%◌, ◌≤◌, ◌<◌, arith, eqb-true, ltb-false, eq-eqb, ne_eqb, eqb, ltb}
+use mathlib.Core.Bool.{false≢true}
+use borrow.Author.Tests.{eqb-false, not-false}
 use Rattle.bits.specs.Choice.{pick, first_of}
 use Rattle.bits.specs.Str.{bytes_bits, leftmost}
 use Rattle.block.specs.Block.{storage, filled_block}
@@ -20,13 +17,13 @@ use Rattle.keys.specs.Faults.{key_bytes}
 use Rattle.settings.specs.Faults.{settings_refusal}
 use Rattle.settings.specs.Answers.{settings_of}
 use Rattle.settings.proofs.Sound.{sound-size}
-use Rattle.message.specs.Faults.{length_wrong, too_many_bits, too_few_blocks, room_short}
+use Rattle.message.specs.Faults.{length_wrong, too_few_blocks}
 use Rattle.chain.specs.Chain.{held_bits}
 use Rattle.session.specs.declared.Phase.{Phase}
 use Rattle.session.specs.declared.Phase.TheVariants.{Closed, Edge, Part}
 use Rattle.session.specs.declared.Session.{Session}
-use Rattle.session.specs.Record.{keys_in, phase_at, phase_unfit, settings_unsound, declared_too_long, passes_declared, stray_bit, closed_faults, counts_closed}
-use Rattle.session.specs.Calls.{declared_at, late_bits, piece_faults, falls_short, end_faults, finish_faults}
+use Rattle.session.specs.Record.{keys_in, phase_at, phase_unfit, declared_too_long, closed_faults, counts_closed}
+use Rattle.session.specs.Calls.{declared_at, late_bits, piece_faults, end_faults, finish_faults}
 
 -- ---- tests that say no
 
@@ -40,7 +37,7 @@ under-three p k l e h = ltb-false k l (and_second (eqb p 3) (ltb k l) e (eq-eqb 
 
 -- ---- the declared length that a start keeps
 pub declared-few : (p d : ℕ) → declared_too_long p d ≡ false → declared_at p d ≤ 8388608
-unfolding declared_too_long declared_at too_many_bits pick
+unfolding declared_at pick
 declared-few p d h = go (eqb p 3) h
   where
     go : (b : Bool) → b && ltb 8388608 d ≡ false → pick b d 0 ≤ 8388608
@@ -79,7 +76,7 @@ unfolding counts_closed
 open-clear s e = first-clear (closed_faults s) (closed-numbered s) (eqb-true _ 0 (not-false _ e))
 
 pub opens : (s : Session) → counts_closed s ≡ false → Open s
-unfolding closed_faults settings_unsound too_many_bits declared_too_long passes_declared stray_bit
+unfolding closed_faults
 opens s e = go (open-clear s e)
   where
     go : Clear (closed_faults s) → Open s
@@ -98,11 +95,10 @@ opens s e = go (open-clear s e)
 -- ---- an accepted piece: c bytes of which so many bits count
 
 edge_in : (l bits : ℕ) → late_bits l bits ≡ false → 0 < bits → l % 8 ≡ 0
-unfolding late_bits
 edge_in l bits e h = eqb-true (l % 8) 0 (not-false _ (and_second _ _ e (ap not (ne_eqb bits 0 (λ z. omega arith)))))
 
 long-in : (c bits : ℕ) → length_wrong c bits ≡ false → bits ≤ 8 * c
-unfolding length_wrong bytes_for
+unfolding bytes_for
 long-in c bits e = let same = eqb-true c (bytes_for bits) (not-false _ e) in omega arith
 
 pub record Taken (s : Session) (c bits : ℕ) : Type 0 where
@@ -118,7 +114,7 @@ piece-none s c bits e =
     first-clear (piece_faults s c bits) (with refl (with refl (with refl (with refl (with refl all))))) e
 
 pub taken : (s : Session) (c bits : ℕ) → first_of (piece_faults s c bits) ≡ 0 → Taken s c bits
-unfolding piece_faults too_many_bits passes_declared
+unfolding piece_faults
 taken s c bits e = go (piece-none s c bits e)
   where
     go : Clear (piece_faults s c bits) → Taken s c bits
@@ -144,7 +140,7 @@ module _ (s : Session) (other ten : Bool) (e : first_of (end_faults s other ten)
       first-clear (end_faults s other ten) (with refl (with refl (with refl (with refl (with refl all))))) e
 
   pub ended : Ended s
-  unfolding end_faults falls_short
+  unfolding end_faults
   ended = go end-clear
     where
       go : Clear (end_faults s other ten) → Ended s
@@ -163,5 +159,5 @@ module _ (s : Session) (other ten : Bool) (e : first_of (end_faults s other ten)
 
 -- where a tag is made, there is room for it
 pub room-wide : (s : Session) (room : ℕ) → first_of (finish_faults s room) ≡ 0 → bytes_for s.agreement.m ≤ room
-unfolding finish_faults room_short
+unfolding finish_faults
 room-wide s room e = ltb-false room (bytes_for s.agreement.m) (no-ten s _ _ e)

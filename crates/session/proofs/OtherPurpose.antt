@@ -4,26 +4,18 @@
 -- `piece-keeps`), the expected bytes have no part in making a tag (`finish-aimed`), and those past the agreed bits none in checking one
 -- (`check-aimed`).
 -- Assumes nothing.
-use mathlib.Core.Path.{◌≡◌, refl, sym, ap, ◌∙◌}
-use mathlib.Core.Bool.{Bool, true, false, not}
-use mathlib.Core.List.{List, [], ◌∷◌, ◌++◌}
-use Prim.Native.Nat.{ℕ}
-use lib.Dec.{eqb}
-use lib.ListN.{length, take, drop}
+use Rattle.std.proofs.Common.{◌≡◌, refl, sym, ap, ◌∙◌, Bool, true, false, not, List, [], ◌∷◌, ◌++◌, ℕ, eqb, length, take, drop}
 use Rattle.bits.specs.Choice.{pick, ◌given◌, first_of}
 use Rattle.bits.specs.Str.{same_row}
 use Rattle.bits.proofs.Choice.{pick-ap, either_way}
 use Rattle.mac.specs.Tag.{bits_of, bytes_for, tag_bytes}
-use Rattle.settings.specs.Answers.{settings_of}
-use Rattle.settings.specs.declared.Outcome.{Outcome}
-use Rattle.settings.specs.declared.Outcome.TheVariants.{Accepted, Made, Yes, No, Refused}
+use Rattle.settings.specs.Answers.{settings_of, Told, Accepted, Made, Yes, No, Refused}
 use Rattle.message.specs.Faults.{too_few_blocks, room_short}
 use Rattle.session.specs.declared.Purpose.{Purpose}
 use Rattle.session.specs.declared.Purpose.TheVariants.{Making, Checking}
 use Rattle.session.specs.declared.Session.{Session}
-use Rattle.session.specs.declared.Step.{Step}
+use Rattle.session.specs.Calls.{Stepped, piece_faults, fed_of, piece_of, falls_short, end_faults, finish_faults, finish_check_faults, tag_in, calls_in, finish_of, judged_of, finish_check_of}
 use Rattle.session.specs.Record.{cleared, state_in, aimed, is_check, closed_faults, counts_closed}
-use Rattle.session.specs.Calls.{piece_faults, fed_of, piece_of, falls_short, end_faults, finish_faults, finish_check_faults, tag_in, calls_in, finish_of, judged_of, finish_check_of}
 use Rattle.session.proofs.Answers.{of-step, chosen-alike}
 use Rattle.session.proofs.Purposes.{aimed-fed, aimed-piece, aimed-end}
 
@@ -68,8 +60,8 @@ module _ (s : Session) where
 -- ---- the record of another purpose, or with another tag expected
 
 -- a step whose record is for another purpose
-abbrev pub onward : Purpose → List ℕ → Step → Step
-onward p e r = record { answer = r.answer; session = aimed p e r.session }
+abbrev pub onward : Purpose → List ℕ → Stepped → Stepped
+onward p e r = record r { session = aimed p e r.session }
 
 pub piece-aimed : (p : Purpose) (e : List ℕ) (s : Session) (bytes : List ℕ) (bits : ℕ) → piece_of (aimed p e s) bytes bits ≡ onward p e (piece_of s bytes bits)
 unfolding piece_of
@@ -86,10 +78,10 @@ pub piece-keeps : (s : Session) (bytes : List ℕ) (bits : ℕ) → ((piece_of s
 unfolding aimed
 piece-keeps s bytes bits =
     let same : piece_of s bytes bits ≡ onward s.purpose s.expected (piece_of s bytes bits) = piece-aimed s.purpose s.expected s bytes bits in
-    (ap (λ (r : Step). r.session.purpose) same, ap (λ (r : Step). r.session.expected) same)
+    (ap (λ (r : Stepped). r.session.purpose) same, ap (λ (r : Stepped). r.session.expected) same)
 
 -- the answer and the room
-abbrev pub outcome : Step × List ℕ → Outcome × List ℕ
+abbrev pub outcome : Stepped × List ℕ → Told × List ℕ
 outcome r = (r.0.answer, r.1)
 
 pub finish-aimed : (e : List ℕ) (s : Session) (room : List ℕ) → s.purpose ≡ Making → outcome (finish_of (aimed Making e s) room) ≡ outcome (finish_of s room)
@@ -104,8 +96,8 @@ check-aimed e s mine same = ap (λ (n : ℕ). answer (aimed Checking e s) n) fau
     no : ℕ
     no = first_of (finish_check_faults s)
 
-    answer : Session → ℕ → Outcome
-    answer t n = (pick {A = Step} (eqb n 0) (record { answer = judged_of t; session = cleared }) (record { answer = Refused n; session = t })).answer
+    answer : Session → ℕ → Told
+    answer t n = (pick {A = Stepped} (eqb n 0) (record { answer = judged_of t; session = cleared }) (record { answer = Refused n; session = t })).answer
 
     faults : first_of (finish_check_faults (aimed Checking e s)) ≡ no
     faults = ap first_of (aimed-end Checking e s _ false) ∙ ap (λ (p : Purpose). first_of (end_faults s (not (is_check p)) false)) (sym mine)

@@ -1,10 +1,7 @@
 -- What the purpose of a record and its expected tag have no part in: whether it counts as closed, what a piece does to it, its tag and its
 -- calls, and the faults of its end but for the purpose itself. Each is the same for the record of any other purpose (`aimed`).
 -- Assumes nothing.
-use mathlib.Core.Path.{◌≡◌, refl}
-use mathlib.Core.Bool.{Bool}
-use mathlib.Core.List.{List}
-use Prim.Native.Nat.{ℕ}
+use Rattle.std.proofs.Common.{◌≡◌, refl, Bool, List, ℕ}
 use Rattle.bits.specs.Str.{Bits}
 use Rattle.session.specs.declared.Purpose.{Purpose}
 use Rattle.session.specs.declared.Session.{Session}

@@ -2,14 +2,7 @@
 -- answers"): no test by which a record counts as closed finds anything in what they hand back (`start-opens`, `start-check-opens`,
 -- `piece-opens`). `stood-open` and `aimed-open` say it of every record that an accepted start and bits within the limits lead to.
 -- Assumes nothing.
-use mathlib.Core.Path.{◌≡◌, refl, sym, ap, ◌∙◌}
-use mathlib.Core.Bool.{Bool, true, false, not, ◌&&◌}
-use mathlib.Core.List.{List, []}
-use Prim.Native.Nat.{ℕ, ◌+◌, ◌%◌, ◌≤◌}
-use native.Mathlib.Omega.{arith}
-use borrow.Author.Tests.{eq-eqb, eqb-true, le-ltb}
-use lib.Dec.{eqb, ltb}
-use lib.ListN.{length}
+use Rattle.std.proofs.Common.{◌≡◌, refl, sym, ap, ◌∙◌, Bool, true, false, not, ◌&&◌, List, [], ℕ, ◌+◌, ◌%◌, ◌≤◌, arith, eq-eqb, eqb-true, le-ltb, eqb, ltb, length}
 use Rattle.bits.specs.Choice.{pick}
 use Rattle.bits.specs.Str.{Bits}
 use Rattle.bits.proofs.Faults.{Clear, passed, done, first-clear, clear_first, clear-one, clear-append}
@@ -34,9 +27,8 @@ use Rattle.chain.proofs.Standing.{Reached, reached-at, reached-next, keeps}
 use Rattle.session.specs.declared.Purpose.{Purpose}
 use Rattle.session.specs.declared.Purpose.TheVariants.{Checking}
 use Rattle.session.specs.declared.Session.{Session}
-use Rattle.session.specs.declared.Step.{Step}
+use Rattle.session.specs.Calls.{Stepped, start_faults, fresh_of, declared_at, start_of, start_check_of, steps_in, piece_faults, fed_of}
 use Rattle.session.specs.Record.{keys_in, state_in, standing, aimed, phase_at, phase_unfit, settings_unsound, declared_too_long, passes_declared, closed_faults, counts_closed}
-use Rattle.session.specs.Calls.{start_faults, fresh_of, declared_at, start_of, start_check_of, steps_in, piece_faults, fed_of}
 use Rattle.session.proofs.Open.{open-clear, taken, piece-none}
 use Rattle.session.proofs.Answers.{start-faults, start-numbered}
 use Rattle.session.proofs.Purposes.{aimed-closed}
@@ -83,7 +75,7 @@ module _ (A : Agreement) (s : List ℕ) (d : ℕ) where
   start-clear u = first-clear _ (start-numbered A s d) (sym (start-faults A s d) ∙ u)
 
   settings-sound : Clear (start_faults A s d) → settings_unsound A (in_use A (given_of s)) ≡ false
-  unfolding start_faults settings_unsound settings_refusal
+  unfolding start_faults settings_refusal
   settings-sound g =
       let n : ℕ = key_bytes A.master A.algorithm in
       ap (λ (r : Run Keys). not (eqb (settings_refusal A n r.out) 0)) (given-keys A.master A.algorithm s)
@@ -94,7 +86,7 @@ module _ (A : Agreement) (s : List ℕ) (d : ℕ) where
   declared-short g = clear-one (clear-append (agreement_faults A s) _ g).1
 
   pub stood-open : Clear (start_faults A s d) → (x : Bits) → length x ≤ 8388608 → (A.padding ≡ 3 → length x ≤ d) → Running (stood A s d x)
-  unfolding closed_faults stood standing fresh_of too_many_bits declared_too_long passes_declared
+  unfolding closed_faults stood standing fresh_of
   stood-open g x few within =
       runs (stood A s d x)
       (passed (phase-fits (length x))
@@ -152,5 +144,5 @@ module _ (s : Session) (hv : length s.hold.value ≡ 16) (hh : length s.hold.hel
   pub piece-opens : (q : Offered) → Unrefused (offer s q).answer → Running (offer s q).session
   piece-opens q u =
       let t = taken s (length q.bytes) q.bits (piece-sound s q u) in
-      let e = ap (λ (r : Step). r.session) (piece-taken s q u) in
+      let e = ap (λ (r : Stepped). r.session) (piece-taken s q u) in
       rw e (fed-open q (piece-none s (length q.bytes) q.bits (piece-sound s q u)) (length-bits_of q.bytes q.bits t.long))

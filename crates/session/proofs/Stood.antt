@@ -1,14 +1,7 @@
 -- The record of a session after the bits x: it stands for the definition's state after x (crate mac). So a piece leads to the next
 -- such record, and an end gives the definition's tag, with as many calls as the definition's list has.
 -- Assumes nothing.
-use mathlib.Core.Path.{◌≡◌, refl, sym, ap, ap₂, ◌∙◌}
-use mathlib.Core.Bool.{Bool, true, false, not}
-use mathlib.Core.List.{List, [], ◌++◌, append-nil}
-use Prim.Native.Nat.{ℕ, ◌+◌, ◌≤◌, ◌<◌}
-use native.Mathlib.Omega.{arith}
-use borrow.Author.Tests.{eqb-true}
-use lib.Dec.{eqb}
-use lib.ListN.{length, take, replicate, length-append}
+use Rattle.std.proofs.Common.{◌≡◌, refl, sym, ap, ap₂, ◌∙◌, Bool, true, false, not, List, [], ◌++◌, append-nil, ℕ, ◌+◌, ◌≤◌, ◌<◌, arith, eqb-true, eqb, length, take, replicate, length-append}
 use Rattle.bits.specs.Choice.{pick}
 use Rattle.bits.specs.Str.{Bits, bytes_bits, zeros, leftmost}
 use Rattle.bits.proofs.Strings.{same_b-true, length-zeros}
@@ -49,7 +42,7 @@ some = (lawful-at 1).wide
 
 -- a waiting block that is made of the bits that wait after l has no bit set past them
 pub held-clean : (l : ℕ) (w : Bits) → length w ≡ held_bits n l → stray_bit (held_bits n l) (bytes_bits (block_bytes w)) ≡ false
-unfolding stray_bit leftmost
+unfolding leftmost
 held-clean l w h = ap not (same_b-true _ _ (ap (λ (v : Bits). filled_block (take (held_bits n l) v)) bits ∙ ap filled_block (take-filled (held_bits n l) w h) ∙ sym bits))
   where
     bits : bytes_bits (block_bytes w) ≡ filled_block w

@@ -51,31 +51,13 @@ phase_at l = pick (eqb (l % 8) 0) Edge (Part (l % 8))
 
 -- the record of s that stands for t after l bits
 unfoldable pub standing : Session → ℕ → State → Session
-standing s l t = record {
-  phase = phase_at l;
-  purpose = s.purpose;
-  agreement = s.agreement;
-  declared = s.declared;
-  total = l;
-  keys = s.keys;
-  hold = hold_of t;
-  expected = s.expected;
-}
+standing s l t = record s { phase = phase_at l; total = l; hold = hold_of t }
 
 -- ---- what it is for
 
 -- the record of s for this purpose, with this tag expected
 unfoldable pub aimed : Purpose → List ℕ → Session → Session
-aimed p e s = record {
-  phase = s.phase;
-  purpose = p;
-  agreement = s.agreement;
-  declared = s.declared;
-  total = s.total;
-  keys = s.keys;
-  hold = s.hold;
-  expected = e;
-}
+aimed p e s = record s { purpose = p; expected = e }
 
 unfoldable pub is_check : Purpose → Bool
 is_check Making = false
@@ -90,19 +72,19 @@ phase_unfit Edge l = not (eqb (l % 8) 0)
 phase_unfit (Part n) l = pick (eqb n 0) true (not (eqb (l % 8) n))
 
 -- a start would refuse its agreement or keys (its key bytes are as many as it needs)
-unfoldable pub settings_unsound : Agreement → Keys → Bool
+abbrev pub settings_unsound : Agreement → Keys → Bool
 settings_unsound A K = not (eqb (settings_refusal A (key_bytes A.master A.algorithm) K) 0)
 
 -- under padding 3, a declared length of d bits is too long
-unfoldable pub declared_too_long : ℕ → ℕ → Bool
+abbrev pub declared_too_long : ℕ → ℕ → Bool
 declared_too_long p d = eqb p 3 && too_many_bits d
 
 -- under padding 3, l bits pass d
-unfoldable pub passes_declared : ℕ → ℕ → ℕ → Bool
+abbrev pub passes_declared : ℕ → ℕ → ℕ → Bool
 passes_declared p d l = eqb p 3 && ltb d l
 
 -- a bit of the waiting block past the n bits it holds is set
-unfoldable pub stray_bit : ℕ → Bits → Bool
+abbrev pub stray_bit : ℕ → Bits → Bool
 stray_bit n w = not (same_b (filled_block (leftmost n w)) w)
 
 unfoldable pub closed_faults : Session → List Fault

@@ -7,18 +7,24 @@ ghost use Rattle.std.specs.Prelude.{◌≡◌, false, ◌+◌, ◌*◌, ◌%◌,
 ghost use Rattle.bits.specs.Choice.{first_of};
 ghost use Rattle.bits.specs.Str.{bytes_bits};
 ghost use Rattle.block.specs.Block.{storage, filled_block};
-ghost use Rattle.cipher.specs.Ciphers.{table_at};
+ghost use Rattle.cipher.specs.Ciphers.{cipher_at};
 ghost use Rattle.mac.specs.Tag.{bits_of};
 ghost use Rattle.keys.specs.Given.{key_bits, Unpacks};
-ghost use Rattle.settings.specs.Answers.{number_of, settings_of};
+ghost use Rattle.refusals.specs.Number.{number_in};
+ghost use Rattle.settings.specs.Answers.{settings_of, told};
 ghost use Rattle.message.specs.Faults.{too_few_blocks};
-ghost use Rattle.chain.specs.Chain.{rounds_bits, rounds_of};
-ghost use Rattle.session.specs.declared.Purpose.TheVariants.{Checking};
-ghost use Rattle.session.specs.Record.{cleared, aimed, is_check, phase_at, phase_unfit, settings_unsound, passes_declared, declared_too_long, stray_bit, counts_closed, unpacked_in, keys_in};
-ghost use Rattle.session.specs.Calls.{refused_start, fresh_of, declared_at, start_under, start_of, start_check_of, late_bits, piece_faults, fed_of, piece_of, falls_short, end_faults, tag_in, calls_in, finish_of, judged_of, finish_check_of};
+ghost use Rattle.chain.specs.Rounds.{rounds_bits, rounds_of};
+ghost use Rattle.chain.specs.Chain.{held_bits};
+ghost use Rattle.session.specs.Record.{cleared, phase_at, phase_unfit, settings_unsound, passes_declared, declared_too_long, stray_bit, counts_closed, unpacked_in, keys_in};
+ghost use Rattle.session.specs.Calls.{stepped, accepted_step, finished_step, fresh_of, start_of, start_check_of, late_bits, piece_faults, fed_of, piece_of, falls_short, end_faults, tag_in, calls_in, finish_of, judged_of, finish_check_of};
+
+use chain::{Hold, Keyed};
+use keys::KeyBlocks;
+use refusals::Refusal;
+use settings::{Agreement, Outcome, Settings};
 
 // Open at a byte edge, open after a part byte of 1 to 7 bits, or closed.
-#[derive(Clone, Copy)]
+#[derive(Clone, Copy, PartialEq, Eq)]
 pub enum Phase {
     Closed,
     Edge,
@@ -26,7 +32,7 @@ pub enum Phase {
 }
 
 // What a session is for: its finish makes a tag, or says whether the expected one is right.
-#[derive(Clone, Copy)]
+#[derive(Clone, Copy, PartialEq, Eq)]
 pub enum Purpose {
     Making,
     Checking,
@@ -34,190 +40,146 @@ pub enum Purpose {
 
 // What was agreed, the declared length, the bits so far, the keys as they were given, what the chain holds, and the tag that a check
 // expects: as many of the bytes count as the agreed bits fill or begin.
-#[derive(Clone, Copy)]
+#[derive(Clone, Copy, PartialEq, Eq)]
 pub struct Session {
     pub phase: Phase,
     pub purpose: Purpose,
-    pub agreement: settings::Agreement,
+    pub agreement: Agreement,
     pub declared: usize,
     pub total: usize,
     pub keys: [u8; 32],
-    pub hold: chain::Hold,
+    pub hold: Hold,
     pub expected: [u8; 16],
 }
 
 // What a call answers, and the session it hands back.
 #[derive(Clone, Copy)]
 pub struct Step {
-    pub answer: settings::Outcome,
+    pub answer: Result<Outcome, Refusal>,
     pub session: Session,
 }
 
 // ---- the record
 
-fn closed_session() -> Session
-    ensures { result ≡ cleared }
-{
-    let agreement = settings::Agreement {
+const CLOSED: Session = Session {
+    phase: Phase::Closed,
+    purpose: Purpose::Making,
+    agreement: Agreement {
         algorithm: 0,
         padding: 0,
         m: 0,
         master: false,
-    };
-    let hold = chain::Hold {
+    },
+    declared: 0,
+    total: 0,
+    keys: [0u8; 32],
+    hold: Hold {
         value: [0u8; 16],
         held: [0u8; 16],
-    };
-    Session {
-        phase: Phase::Closed,
-        purpose: Purpose::Making,
-        agreement,
-        declared: 0,
-        total: 0,
-        keys: [0u8; 32],
-        hold,
-        expected: [0u8; 16],
+    },
+    expected: [0u8; 16],
+};
+
+impl Step {
+    // What a start or a piece comes to: the session it makes; or its refusal, and the session that stays.
+    #[tactic(auto, unfolding(settings::specs::Answers::told))]
+    fn accepted(made: Result<Session, Refusal>, stays: Session) -> Step
+        ensures { stepped result ≡ accepted_step made stays }
+    {
+        match made {
+            Ok(session) => Step {
+                answer: Ok(Outcome::Accepted),
+                session,
+            },
+            Err(refusal) => Step {
+                answer: Err(refusal),
+                session: stays,
+            },
+        }
+    }
+
+    // What a finish comes to: its outcome, and the session is closed; or its refusal, and the session that stays.
+    #[tactic(auto, unfolding(crate::specs::Record::cleared, settings::specs::Answers::told))]
+    fn finished(answer: Result<Outcome, Refusal>, stays: Session) -> Step
+        ensures { stepped result ≡ finished_step answer stays }
+    {
+        let session = match answer {
+            Ok(_) => CLOSED,
+            Err(_) => stays,
+        };
+        Step { answer, session }
     }
 }
 
-// Whether a session of this purpose checks a tag.
-fn is_check(purpose: Purpose) -> bool
-    ensures { result ≡ is_check purpose }
-{
-    match purpose {
-        Purpose::Making => false,
-        Purpose::Checking => true,
-    }
-}
-
+#[tactic(auto, unfolding(crate::specs::Record::phase_at, bits::specs::Choice::pick))]
 fn phase_at(total: usize) -> Phase
     ensures { result ≡ phase_at total }
 {
-    let part = total % 8;
-    if part == 0 {
-        return Phase::Edge;
-    }
-    Phase::Part(part)
-}
-
-fn phase_unfit(phase: Phase, total: usize) -> bool
-    ensures { result ≡ phase_unfit phase total }
-{
-    match phase {
-        Phase::Closed => true,
-        Phase::Edge => total % 8 != 0,
-        Phase::Part(n) => {
-            if n == 0 {
-                return true;
-            }
-            total % 8 != n
-        }
+    match total % 8 {
+        0 => Phase::Edge,
+        part => Phase::Part(part),
     }
 }
 
-fn settings_unsound(agreement: settings::Agreement, keys: keys::KeyBlocks) -> bool
-    ensures { result ≡ settings_unsound agreement (key_bits keys) }
-{
-    let needed = keys::bytes_of(agreement.master, agreement.algorithm);
-    settings::refusal(agreement, needed, keys) != 0
-}
-
-// Whether so many bits after others pass the declared length, with no sum that could wrap.
-fn passes_declared(padding: usize, declared: usize, total: usize, bits: usize) -> bool
-    ensures { result ≡ passes_declared padding declared (total + bits) }
-{
-    if padding != 3 {
-        return false;
-    }
-    if declared < total {
-        return true;
-    }
-    declared - total < bits
-}
-
+// A padding is its number, here and below: a record may hold any.
 fn declared_too_long(padding: usize, declared: usize) -> bool
     ensures { result ≡ declared_too_long padding declared }
 {
-    if padding == 3 {
-        return message::too_many_bits(declared);
+    padding == 3 && message::too_many_bits(declared)
+}
+
+impl Session {
+    fn phase_unfit(self) -> bool
+        ensures { result ≡ phase_unfit self.phase self.total }
+    {
+        self.phase != phase_at(self.total)
     }
-    false
+
+    fn stray_bit(self) -> bool
+        ensures { result ≡ stray_bit (held_bits (cipher_at 1).n self.total) (bytes_bits self.hold.held) }
+    {
+        let waits = chain::held_bits(cipher::SM4, self.total);
+        !block::equal(block::leftmost(self.hold.held, waits), self.hold.held)
+    }
+
+    // Whether so many bits more pass the declared length, with no sum that could wrap.
+    fn passes_declared(self, bits: usize) -> bool
+        ensures { result ≡ passes_declared self.agreement.padding self.declared (self.total + bits) }
+    {
+        self.agreement.padding == 3
+            && (self.declared < self.total || self.declared - self.total < bits)
+    }
+
+    fn falls_short(self) -> bool
+        ensures { result ≡ falls_short self.agreement.padding self.declared self.total }
+    {
+        self.agreement.padding == 3 && self.total < self.declared
+    }
+
+    fn late_bits(self, bits: usize) -> bool
+        ensures { result ≡ late_bits self.total bits }
+    {
+        bits != 0 && self.total % 8 != 0
+    }
 }
 
-fn stray_bit(n: usize, held: [u8; 16]) -> bool
-    ensures { result ≡ stray_bit n (bytes_bits held) }
+// What the heart works under: SM4, the settings of an agreement, and the round keys of keys in use.
+fn keyed<'a>(t: &'a cipher::Table, agreement: Agreement, keys: KeyBlocks) -> Keyed<'a>
+    ensures cipher { result.cipher ≡ 1 }
+    ensures settings { result.settings ≡ settings_of agreement }
+    ensures rounds { rounds_bits result.rounds ≡ rounds_of 1 agreement.algorithm (key_bits keys) }
 {
-    !block::equal(block::leftmost(held, n), held)
-}
-
-// Whether a record counts as closed, for whatever purpose and with whatever tag expected; told are its keys in use.
-fn counts_closed(s: Session, keys: keys::KeyBlocks) -> bool
-    requires { key_bits keys ≡ keys_in s }
-    ensures { result ≡ counts_closed s }
-{
-    let phase = s.phase;
-    let agreement = s.agreement;
-    let padding = agreement.padding;
-    let hold = s.hold;
-    let held = hold.held;
-    let there = [
-        phase_unfit(phase, s.total),
-        settings_unsound(agreement, keys),
-        message::too_many_bits(s.total),
-        declared_too_long(padding, s.declared),
-        passes_declared(padding, s.declared, s.total, 0),
-        stray_bit(chain::held_bits(cipher::SM4, s.total), held),
-    ];
-    bits::first(&[11, 11, 11, 11, 11, 11], &there) != 0
+    Keyed::new(t, cipher::SM4, Settings::of(agreement), keys)
 }
 
 // ---- start
 
-// A refused start: its number, and a closed record.
-fn refused_start(number: usize) -> Step
-    ensures { result ≡ refused_start number }
-{
-    let shut = closed_session();
-    Step {
-        answer: settings::Outcome::Refused(number),
-        session: shut,
-    }
-}
-
-fn declared_at(padding: usize, declared: usize) -> usize
-    ensures { result ≡ declared_at padding declared }
-{
-    if padding == 3 {
-        return declared;
-    }
-    0
-}
-
-// The round keys of keys in use.
-fn rounds_of(t: &cipher::Table, algorithm: usize, keys: keys::KeyBlocks) -> chain::Rounds
-    requires { t.now ≡ table_at 1 }
-    ensures { rounds_bits result ≡ rounds_of 1 algorithm (key_bits keys) }
-{
-    chain::expand(t, cipher::SM4, algorithm, keys)
-}
-
-fn fresh(
-    agreement: settings::Agreement,
-    given: [u8; 32],
-    keys: keys::KeyBlocks,
-    declared: usize,
-) -> Session
+fn fresh(agreement: Agreement, given: [u8; 32], keys: KeyBlocks, declared: usize) -> Session
     requires { declared ≤ 8388608 }
     ensures { result ≡ fresh_of agreement given (key_bits keys) declared }
 {
     let t = cipher::table(cipher::SM4);
-    let named = settings::Settings::of(agreement);
-    let k = chain::Keyed {
-        cipher: cipher::SM4,
-        settings: named,
-        rounds: rounds_of(&t, named.algorithm, keys),
-    };
-    let hold = chain::begin(&t, k, declared as u32);
+    let k = keyed(&t, agreement, keys);
     Session {
         phase: Phase::Edge,
         purpose: Purpose::Making,
@@ -225,309 +187,230 @@ fn fresh(
         declared,
         total: 0,
         keys: given,
-        hold,
+        hold: chain::begin(&k, declared as u32),
         expected: [0u8; 16],
     }
 }
 
-// A session begins under the settings of an agreement that was found sound.
-fn start_under(
-    agreement: settings::Agreement,
-    given: [u8; 32],
-    keys: keys::KeyBlocks,
+#[tactic(auto, using(crate::proofs::Answers::starting), unfolding(crate::specs::Calls::start_of, crate::specs::Calls::started_by, crate::specs::Calls::refused_start, crate::specs::Calls::declared_at, refusals::specs::Number::number_in, bits::specs::Choice::pick))]
+fn begin(agreement: Agreement, keys: &[u8], declared: usize) -> Result<Session, Refusal>
+    ensures { accepted_step result cleared ≡ start_of agreement keys.now declared }
+{
+    let used = settings::unpack(agreement, keys).keys;
+    settings::refusal(agreement, keys.len(), used)?;
+    if declared_too_long(agreement.padding, declared) {
+        return Err(Refusal::TooManyBits);
+    }
+    let kept = if agreement.padding == 3 { declared } else { 0 };
+    Ok(fresh(agreement, keys::kept(keys), used, kept))
+}
+
+#[tactic(auto, using(crate::proofs::Answers::starting), unfolding(crate::specs::Calls::start_of, crate::specs::Calls::started_by, crate::specs::Calls::start_check_of, crate::specs::Calls::fresh_check_of, crate::specs::Calls::refused_start, crate::specs::Record::aimed, refusals::specs::Number::number_in, bits::specs::Choice::pick))]
+fn begin_check(
+    agreement: Agreement,
+    keys: &[u8],
     declared: usize,
-) -> Step
-    ensures { result ≡ start_under agreement given (key_bits keys) declared }
+    tag: &[u8],
+) -> Result<Session, Refusal>
+    ensures { accepted_step result cleared ≡ start_check_of agreement keys.now declared tag.now }
 {
-    let padding = agreement.padding;
-    if declared_too_long(padding, declared) {
-        return refused_start(8);
+    let session = begin(agreement, keys, declared)?;
+    if message::tag_length_wrong(agreement.m, tag.len()) {
+        return Err(Refusal::TagBytes);
     }
-    let first = fresh(agreement, given, keys, declared_at(padding, declared));
-    Step {
-        answer: settings::Outcome::Accepted,
-        session: first,
-    }
-}
-
-// A session begins; declared is the message's bit length, read with padding 3 only.
-pub fn start(agreement: settings::Agreement, keys: &[u8], declared: usize) -> Step
-    ensures { result ≡ start_of agreement keys.now declared }
-{
-    let unpacked = settings::unpack(agreement, keys);
-    let used = unpacked.keys;
-    let checked = settings::Settings::checked(agreement, keys.len(), used);
-    match checked {
-        settings::Checked::Unsound(no) => refused_start(no),
-        settings::Checked::Sound(_) => start_under(agreement, keys::kept(keys), used, declared),
-    }
-}
-
-// The number of an answer, 0 where nothing is refused.
-fn number_of(answer: settings::Outcome) -> usize
-    ensures { result ≡ number_of answer }
-{
-    match answer {
-        settings::Outcome::Accepted => 0,
-        settings::Outcome::Made(_) => 0,
-        settings::Outcome::Yes(_) => 0,
-        settings::Outcome::No(_) => 0,
-        settings::Outcome::Refused(number) => number,
-    }
-}
-
-// The session, its purpose to check this tag.
-fn to_check(s: Session, expected: [u8; 16]) -> Session
-    ensures { result ≡ aimed Checking expected s }
-{
-    let phase = s.phase;
-    let agreement = s.agreement;
-    let keys = s.keys;
-    let hold = s.hold;
-    Session {
-        phase,
+    Ok(Session {
         purpose: Purpose::Checking,
-        agreement,
-        declared: s.declared,
-        total: s.total,
-        keys,
-        hold,
-        expected,
-    }
+        expected: block::front(tag),
+        ..session
+    })
+}
+
+// A session begins; declared is the message's bit length, read with padding 3 only. A refusal comes with a closed record.
+#[tactic(auto, unfolding(crate::specs::Record::cleared))]
+pub fn start(agreement: Agreement, keys: &[u8], declared: usize) -> Step
+    ensures { stepped result ≡ start_of agreement keys.now declared }
+{
+    Step::accepted(begin(agreement, keys, declared), CLOSED)
 }
 
 // A session begins at whose end this tag is checked; its bytes are kept as they were given.
-pub fn start_check(agreement: settings::Agreement, keys: &[u8], declared: usize, tag: &[u8]) -> Step
-    ensures { result ≡ start_check_of agreement keys.now declared tag.now }
+#[tactic(auto, unfolding(crate::specs::Record::cleared))]
+pub fn start_check(agreement: Agreement, keys: &[u8], declared: usize, tag: &[u8]) -> Step
+    ensures { stepped result ≡ start_check_of agreement keys.now declared tag.now }
 {
-    let step = start(agreement, keys, declared);
-    let answer = step.answer;
-    let number = number_of(answer);
-    let ten = message::tag_length_wrong(agreement.m, tag.len());
-    if number != 0 {
-        return refused_start(number);
+    Step::accepted(begin_check(agreement, keys, declared, tag), CLOSED)
+}
+
+// ---- a session in a call
+
+// A session with its keys in use: each call unpacks them once, for the record keeps the bytes as they were given.
+#[derive(Clone, Copy)]
+struct WithKeys {
+    session: Session,
+    unpacked: keys::Unpacked,
+    ghost own: { Unpacks unpacked (unpacked_in session) },
+}
+
+impl WithKeys {
+    fn of(session: Session) -> WithKeys
+        ensures { result.session ≡ session }
+    {
+        WithKeys {
+            session,
+            unpacked: settings::unpack(session.agreement, &session.keys),
+        }
     }
-    if ten {
-        return refused_start(10);
+
+    fn settings_unsound(&self) -> bool
+        ensures { result ≡ settings_unsound self.now.session.agreement (keys_in self.now.session) }
+    {
+        let agreement = self.session.agreement;
+        let needed = keys::bytes_of(agreement.master, agreement.algorithm);
+        settings::refusal(agreement, needed, self.unpacked.keys).is_err()
     }
-    let begun = step.session;
-    let first = to_check(begun, block::front(tag));
-    Step {
-        answer: settings::Outcome::Accepted,
-        session: first,
+
+    // Whether the record counts as closed, for whatever purpose and with whatever tag expected.
+    #[tactic(auto, unfolding(crate::specs::Record::counts_closed, crate::specs::Record::closed_faults, bits::specs::Choice::first_of, bits::specs::Choice::pick))]
+    fn counts_closed(&self) -> bool
+        ensures { result ≡ counts_closed self.now.session }
+    {
+        let s = self.session;
+        s.phase_unfit()
+            || self.settings_unsound()
+            || message::too_many_bits(s.total)
+            || declared_too_long(s.agreement.padding, s.declared)
+            || s.passes_declared(0)
+            || s.stray_bit()
     }
-}
 
-// ---- an open session
-
-// Its keys in use, once for each call: the record keeps the bytes as they were given, and whether a master is in use.
-fn unpacked_in(s: Session) -> keys::Unpacked
-    ensures { Unpacks result (unpacked_in s) }
-{
-    let agreement = s.agreement;
-    let given = s.keys;
-    settings::unpack(agreement, &given)
-}
-
-// ---- piece
-
-fn late_bits(total: usize, bits: usize) -> bool
-    ensures { result ≡ late_bits total bits }
-{
-    if bits == 0 {
-        return false;
+    fn piece_refusal(&self, length: usize, bits: usize) -> Result<(), Refusal>
+        ensures { number_in result ≡ first_of (piece_faults self.now.session length bits) }
+    {
+        let s = self.session;
+        bits::first_fault(&[
+            (self.counts_closed(), Refusal::Closed),
+            (s.late_bits(bits), Refusal::Closed),
+            (message::length_wrong(length, bits), Refusal::MessageBytes),
+            (message::too_many_more(s.total, bits), Refusal::TooManyBits),
+            (s.passes_declared(bits), Refusal::DeclaredLength),
+        ])
     }
-    total % 8 != 0
-}
 
-fn piece_refusal(s: Session, keys: keys::KeyBlocks, length: usize, bits: usize) -> usize
-    requires { key_bits keys ≡ keys_in s }
-    ensures { result ≡ first_of (piece_faults s length bits) }
-{
-    let agreement = s.agreement;
-    let there = [
-        counts_closed(s, keys),
-        late_bits(s.total, bits),
-        message::length_wrong(length, bits),
-        message::too_many_more(s.total, bits),
-        passes_declared(agreement.padding, s.declared, s.total, bits),
-    ];
-    bits::first(&[11, 11, 7, 8, 12], &there)
-}
-
-// The bits of a piece go into an open session.
-fn fed(s: Session, keys: keys::KeyBlocks, bytes: &[u8], bits: usize) -> Session
-    requires { (key_bits keys ≡ keys_in s) × (bits ≤ 8 * length bytes.now) × (0 < bits → s.total % 8 ≡ 0) × (s.total + bits ≤ 8388608) }
-    ensures { result ≡ fed_of s (bits_of bytes.now bits) }
-{
-    let t = cipher::table(cipher::SM4);
-    let agreement = s.agreement;
-    let named = settings::Settings::of(agreement);
-    let k = chain::Keyed {
-        cipher: cipher::SM4,
-        settings: named,
-        rounds: rounds_of(&t, named.algorithm, keys),
-    };
-    let hold = s.hold;
-    let next = chain::feed(&t, k, hold, s.total, bytes, bits);
-    let total = s.total + bits;
-    let phase = phase_at(total);
-    let purpose = s.purpose;
-    let given = s.keys;
-    let expected = s.expected;
-    Session {
-        phase,
-        purpose,
-        agreement,
-        declared: s.declared,
-        total,
-        keys: given,
-        hold: next,
-        expected,
+    // The bits of a piece go into an open session.
+    fn fed(&self, bytes: &[u8], bits: usize) -> Session
+        requires { (bits ≤ 8 * length bytes.now) × (0 < bits → self.now.session.total % 8 ≡ 0) × (self.now.session.total + bits ≤ 8388608) }
+        ensures { result ≡ fed_of self.now.session (bits_of bytes.now bits) }
+    {
+        let s = self.session;
+        let t = cipher::table(cipher::SM4);
+        let k = keyed(&t, s.agreement, self.unpacked.keys);
+        let total = s.total + bits;
+        Session {
+            phase: phase_at(total),
+            total,
+            hold: chain::feed(&k, s.hold, s.total, bytes, bits),
+            ..s
+        }
     }
-}
 
-// ---- finish
-
-fn falls_short(padding: usize, declared: usize, total: usize) -> bool
-    ensures { result ≡ falls_short padding declared total }
-{
-    if padding == 3 {
-        return total < declared;
+    // The first refusal of a finish; told are whether its purpose is not the session's, and fault 10.
+    fn finish_refusal(&self, other: bool, ten: bool) -> Result<(), Refusal>
+        ensures { number_in result ≡ first_of (end_faults self.now.session other ten) }
+    {
+        let s = self.session;
+        bits::first_fault(&[
+            (self.counts_closed(), Refusal::Closed),
+            (other, Refusal::Closed),
+            (s.falls_short(), Refusal::DeclaredLength),
+            (
+                message::too_few_blocks(Settings::of(s.agreement), s.total),
+                Refusal::TooFewBlocks,
+            ),
+            (ten, Refusal::TagBytes),
+        ])
     }
-    false
-}
 
-// The refusal of a finish; told are whether its purpose is not the session's, and fault 10.
-fn finish_refusal(s: Session, keys: keys::KeyBlocks, other: bool, ten: bool) -> usize
-    requires { key_bits keys ≡ keys_in s }
-    ensures { result ≡ first_of (end_faults s other ten) }
-{
-    let agreement = s.agreement;
-    let there = [
-        counts_closed(s, keys),
-        other,
-        falls_short(agreement.padding, s.declared, s.total),
-        message::too_few_blocks(settings::Settings::of(agreement), s.total),
-        ten,
-    ];
-    bits::first(&[11, 11, 12, 9, 10], &there)
-}
-
-// The tag of an open session, and zeros after it.
-fn tag_block(s: Session, keys: keys::KeyBlocks) -> [u8; 16]
-    requires { key_bits keys ≡ keys_in s }
-    ensures { bytes_bits result ≡ filled_block (tag_in s) }
-{
-    let t = cipher::table(cipher::SM4);
-    let agreement = s.agreement;
-    let named = settings::Settings::of(agreement);
-    let k = chain::Keyed {
-        cipher: cipher::SM4,
-        settings: named,
-        rounds: rounds_of(&t, named.algorithm, keys),
-    };
-    let hold = s.hold;
-    chain::close(&t, k, hold, s.total)
-}
-
-// All its calls, start included, where so many were made for its keys.
-fn calls_in(s: Session, unpacking: u8) -> usize
-    requires { (too_few_blocks (settings_of s.agreement) s.total ≡ false) × (unpacking ≡ length (unpacked_in s).calls) }
-    ensures { result ≡ calls_in s }
-{
-    let agreement = s.agreement;
-    let named = settings::Settings::of(agreement);
-    chain::calls(cipher::SM4, named, unpacking, s.total)
-}
-
-// Whether the tag of an open session is the expected one; every byte of it is looked at.
-fn judged(s: Session, unpacked: keys::Unpacked) -> settings::Outcome
-    requires { (s.agreement.m ≤ storage) × (too_few_blocks (settings_of s.agreement) s.total ≡ false) × Unpacks unpacked (unpacked_in s) }
-    ensures { result ≡ judged_of s }
-{
-    let agreement = s.agreement;
-    let expected = s.expected;
-    let keys = unpacked.keys;
-    let tag = tag_block(s, keys);
-    let calls = calls_in(s, unpacked.calls);
-    let n = message::bytes_for(agreement.m);
-    if block::equal_bytes(&expected[..n], &tag[..n]) {
-        return settings::Outcome::Yes(calls);
+    // The tag of an open session, and zeros after it.
+    fn tag_block(&self) -> [u8; 16]
+        ensures { bytes_bits result ≡ filled_block (tag_in self.now.session) }
+    {
+        let s = self.session;
+        let t = cipher::table(cipher::SM4);
+        let k = keyed(&t, s.agreement, self.unpacked.keys);
+        chain::close(&k, s.hold, s.total)
     }
-    settings::Outcome::No(calls)
+
+    // All calls of the session, start included.
+    fn calls(&self) -> usize
+        requires { too_few_blocks (settings_of self.now.session.agreement) self.now.session.total ≡ false }
+        ensures { result ≡ calls_in self.now.session }
+    {
+        let s = self.session;
+        let named = Settings::of(s.agreement);
+        chain::calls(cipher::SM4, named, self.unpacked.calls, s.total)
+    }
 }
 
 impl Session {
-    // More bits of the message: the first bits of the bytes.
+    #[tactic(auto, using(crate::proofs::Answers::judging), unfolding(crate::specs::Calls::piece_of, refusals::specs::Number::number_in, bits::specs::Choice::pick))]
+    fn take(self, bytes: &[u8], bits: usize) -> Result<Session, Refusal>
+        ensures { accepted_step result self ≡ piece_of self bytes.now bits }
+    {
+        let with_keys = WithKeys::of(self);
+        with_keys.piece_refusal(bytes.len(), bits)?;
+        Ok(with_keys.fed(bytes, bits))
+    }
+
+    #[tactic(auto, using(crate::proofs::Answers::judging), unfolding(crate::specs::Calls::finish_of, crate::specs::Calls::finish_faults, crate::specs::Record::is_check, mac::specs::Tag::bytes_for, refusals::specs::Number::number_in, bits::specs::Choice::pick))]
+    fn make(self, room: &mut [u8]) -> Result<Outcome, Refusal>
+        ensures { (finished_step result self, room.new) ≡ finish_of self room.old }
+    {
+        let with_keys = WithKeys::of(self);
+        let m = self.agreement.m;
+        with_keys.finish_refusal(
+            self.purpose == Purpose::Checking,
+            message::room_short(m, room.len()),
+        )?;
+        block::put(with_keys.tag_block(), message::bytes_for(m), room);
+        Ok(Outcome::Made(with_keys.calls()))
+    }
+
+    // Every byte of the expected tag is looked at.
+    #[tactic(auto, using(crate::proofs::Answers::judging), unfolding(crate::specs::Calls::finish_check_of, crate::specs::Calls::finish_check_faults, crate::specs::Record::is_check, mac::specs::Tag::bytes_for, refusals::specs::Number::number_in, bits::specs::Choice::pick))]
+    fn judge(self) -> Result<Outcome, Refusal>
+        ensures { finished_step result self ≡ finish_check_of self }
+    {
+        let with_keys = WithKeys::of(self);
+        with_keys.finish_refusal(self.purpose != Purpose::Checking, false)?;
+        let tag = with_keys.tag_block();
+        let calls = with_keys.calls();
+        let n = message::bytes_for(self.agreement.m);
+        Ok(if block::equal_bytes(&self.expected[..n], &tag[..n]) {
+            Outcome::Yes(calls)
+        } else {
+            Outcome::No(calls)
+        })
+    }
+
+    // More bits of the message: the first bits of the bytes. A refused piece leaves the session as it was.
     pub fn piece(self, bytes: &[u8], bits: usize) -> Step
-        ensures { result ≡ piece_of self bytes.now bits }
+        ensures { stepped result ≡ piece_of self bytes.now bits }
     {
-        let unpacked = unpacked_in(self);
-        let keys = unpacked.keys;
-        let no = piece_refusal(self, keys, bytes.len(), bits);
-        if no != 0 {
-            return Step {
-                answer: settings::Outcome::Refused(no),
-                session: self,
-            };
-        }
-        let next = fed(self, keys, bytes, bits);
-        Step {
-            answer: settings::Outcome::Accepted,
-            session: next,
-        }
+        Step::accepted(self.take(bytes, bits), self)
     }
 
-    // The end of the message: its tag goes into the first bytes of the room, and the session is closed.
+    // The end of the message: its tag goes into the first bytes of the room, and the session is closed. A refused finish leaves both
+    // as they were.
     pub fn finish(self, room: &mut [u8]) -> Step
-        ensures { (result, room.new) ≡ finish_of self room.old }
+        ensures { (stepped result, room.new) ≡ finish_of self room.old }
     {
-        let purpose = self.purpose;
-        let agreement = self.agreement;
-        let unpacked = unpacked_in(self);
-        let keys = unpacked.keys;
-        let no = finish_refusal(
-            self,
-            keys,
-            is_check(purpose),
-            message::room_short(agreement.m, room.len()),
-        );
-        if no != 0 {
-            return Step {
-                answer: settings::Outcome::Refused(no),
-                session: self,
-            };
-        }
-        let tag = tag_block(self, keys);
-        block::put(tag, message::bytes_for(agreement.m), room);
-        let calls = calls_in(self, unpacked.calls);
-        let shut = closed_session();
-        Step {
-            answer: settings::Outcome::Made(calls),
-            session: shut,
-        }
+        Step::finished(self.make(room), self)
     }
 
-    // The end of the message of a check: yes or no, and the session is closed.
+    // The end of the message of a check: yes or no, and the session is closed. A refused finish leaves it as it was.
     pub fn finish_check(self) -> Step
-        ensures { result ≡ finish_check_of self }
+        ensures { stepped result ≡ finish_check_of self }
     {
-        let purpose = self.purpose;
-        let unpacked = unpacked_in(self);
-        let keys = unpacked.keys;
-        let no = finish_refusal(self, keys, !is_check(purpose), false);
-        if no != 0 {
-            return Step {
-                answer: settings::Outcome::Refused(no),
-                session: self,
-            };
-        }
-        let answer = judged(self, unpacked);
-        let closed = closed_session();
-        Step {
-            answer,
-            session: closed,
-        }
+        Step::finished(self.judge(), self)
     }
 }

@@ -14,7 +14,8 @@ use Rattle.bits.proofs.Faults.{Every, every_first, unlisted}
 use Rattle.mac.specs.Algorithm.{Keys}
 use Rattle.keys.specs.Given.{key_bits}
 use Rattle.settings.specs.Faults.{settings_refusal}
-use Rattle.settings.specs.Answers.{checked_number}
+use Rattle.refusals.specs.Number.{number_in}
+use Rattle.settings.specs.Answers.{checked_number, checked_told}
 use Rattle.settings.specs.declared.Agreement.{Agreement}
 use Rattle.settings.proofs.Sound.{settings-every}
 use Rattle.settings.proofs.Numbers.{checked-number}
@@ -40,8 +41,8 @@ unfolding settings_refusal one_of
 settings-among A n K = among settings_answers refl refl refl (settings-every refl refl refl refl refl A n K)
 
 module _ (κs : Lfts 0) where
-  pub refusal-answers : (a : Dens κs refusal-k.ps) (x : Allowed refusal-k.ps refusal-k.r refusal.Learnt κs a) → Among settings_answers x.result
+  pub refusal-answers : (a : Dens κs refusal-k.ps) (x : Allowed refusal-k.ps refusal-k.r refusal.Learnt κs a) → Among settings_answers (number_in x.result)
   refusal-answers a x = subst (Among settings_answers) (sym x.ensures) (settings-among a.0 a.1.0 (key_bits a.1.1.0))
 
-  pub checked-answers : (a : Dens κs checked-k.ps) (x : Allowed checked-k.ps checked-k.r checked.Learnt κs a) → Among settings_answers (checked_number x.result)
+  pub checked-answers : (a : Dens κs checked-k.ps) (x : Allowed checked-k.ps checked-k.r checked.Learnt κs a) → Among settings_answers (checked_number (checked_told x.result))
   checked-answers a x = subst (Among settings_answers) (sym (checked-number κs a x)) (settings-among a.0 a.1.0 (key_bits a.1.1.0))

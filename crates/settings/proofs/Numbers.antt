@@ -12,19 +12,19 @@ use Rattle.bits.specs.Once.{Allowed}
 use Rattle.bits.proofs.Choice.{chosen-number}
 use Rattle.keys.specs.Given.{key_bits}
 use Rattle.settings.specs.Faults.{settings_refusal}
-use Rattle.settings.specs.Answers.{number_of, reported_calls, settings_of, checked_of, checked_number}
-use Rattle.settings.specs.declared.Outcome.{Outcome}
-use Rattle.settings.specs.declared.Checked.TheVariants.{Sound, Unsound}
+use Rattle.settings.specs.Answers.{number_of, reported_calls, settings_of, checked_of, checked_told, checked_number}
+use Rattle.settings.specs.Answers.{Told}
+use Rattle.settings.specs.Answers.{Sound, Unsound}
 use Rattle.settings.proofs.Settings.checked.Kinds as checked-k
 use Rattle.settings.proofs.Settings.checked.Reads as checked
 
 -- a call that was not refused
-abbrev pub Unrefused : Outcome → Type 0
+abbrev pub Unrefused : Told → Type 0
 Unrefused r = number_of r ≡ 0
 
 -- ---- an answer that is chosen
 
-module _ {R : Type 0} (answer : R → Outcome) (n : ℕ) (x y : R) where
+module _ {R : Type 0} (answer : R → Told) (n : ℕ) (x y : R) where
   pub number-chosen : number_of (answer x) ≡ 0 → number_of (answer y) ≡ n → number_of (answer (pick (eqb n 0) x y)) ≡ n
   number-chosen good bad = chosen-number (λ (r : R). number_of (answer r)) n x y good bad
 
@@ -55,6 +55,6 @@ module _ (κs : Lfts 0) (a : Dens κs checked-k.ps) (x : Allowed checked-k.ps ch
   abbrev refusing : ℕ
   refusing = settings_refusal a.0 a.1.0 (key_bits a.1.1.0)
 
-  pub checked-number : checked_number x.result ≡ refusing
+  pub checked-number : checked_number (checked_told x.result) ≡ refusing
   unfolding checked_of checked_number
   checked-number = ap checked_number x.ensures ∙ chosen-number checked_number refusing (Sound (settings_of a.0)) (Unsound refusing) refl refl

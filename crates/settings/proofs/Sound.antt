@@ -18,8 +18,8 @@ use Rattle.keys.specs.Faults.{key_bytes}
 use Rattle.keys.proofs.GivenKeys.{needed-bytes}
 use Rattle.settings.specs.declared.Agreement.{Agreement}
 use Rattle.settings.specs.declared.Settings.{Settings}
-use Rattle.settings.specs.declared.Checked.{Checked}
-use Rattle.settings.specs.declared.Checked.TheVariants.{Sound, Unsound}
+use Rattle.settings.specs.Answers.{Checked}
+use Rattle.settings.specs.Answers.{Sound, Unsound}
 use Rattle.settings.specs.Faults.{settings_faults, settings_refusal, algorithm_wrong, padding_wrong, size_wrong}
 use Rattle.settings.specs.InUse.{in_use, agreement_faults}
 use Rattle.settings.specs.Answers.{settings_of, checked_of}

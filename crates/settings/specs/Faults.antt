@@ -7,15 +7,15 @@ use Rattle.keys.specs.Faults.{key_bytes_wrong, keys_same}
 use Rattle.settings.specs.declared.Agreement.{Agreement}
 
 -- 1: algorithm not 1..8
-unfoldable pub algorithm_wrong : ℕ → Bool
+abbrev pub algorithm_wrong : ℕ → Bool
 algorithm_wrong a = ltb a 1 || ltb 8 a
 
 -- 2: padding not in the algorithm's row
-unfoldable pub padding_wrong : ℕ → ℕ → Bool
+abbrev pub padding_wrong : ℕ → ℕ → Bool
 padding_wrong a p = pick (row (algorithm_at a)).four (not (eqb p 4)) (ltb p 1 || ltb 3 p)
 
 -- 3: m outside its limit
-unfoldable pub size_wrong : ℕ → ℕ → Bool
+abbrev pub size_wrong : ℕ → ℕ → Bool
 size_wrong a m = ltb m 1 || ltb (row (algorithm_at a)).longest m
 
 -- in this order; n is the number of key bytes, K the keys in use

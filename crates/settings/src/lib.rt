@@ -4,23 +4,25 @@
 
 ghost use Rattle.std.specs.Prelude.{◌≡◌};
 ghost use Rattle.keys.specs.Given.{key_bits, Unpacks};
+ghost use Rattle.refusals.specs.Number.{number_in};
 ghost use Rattle.settings.specs.InUse.{unpacked};
 ghost use Rattle.settings.specs.Faults.{algorithm_wrong, padding_wrong, size_wrong, settings_refusal};
-ghost use Rattle.settings.specs.Answers.{settings_of, checked_of};
+ghost use Rattle.settings.specs.Answers.{settings_of, checked_told, checked_of};
 
-// What a call comes to: a start or a piece was accepted; a tag was made, a tag offered is the right one or is not, each with the
-// number of cipher calls; or the number of the refusal.
-#[derive(Clone, Copy)]
+use refusals::Refusal;
+
+// What a call comes to that is not refused: a start or a piece was accepted; a tag was made, a tag offered is the right one or is not,
+// each with the number of cipher calls.
+#[derive(Clone, Copy, PartialEq, Eq)]
 pub enum Outcome {
     Accepted,
     Made(usize),
     Yes(usize),
     No(usize),
-    Refused(usize),
 }
 
 // What was agreed with a supplier: the settings, and whether the keys come from a master.
-#[derive(Clone, Copy)]
+#[derive(Clone, Copy, PartialEq, Eq)]
 pub struct Agreement {
     pub algorithm: usize,
     pub padding: usize,
@@ -28,18 +30,12 @@ pub struct Agreement {
     pub master: bool,
 }
 
-// The settings that an agreement makes. No rule refuses them where they come from `checked`.
+// The settings that an agreement makes, by the paper's numbers. No rule refuses them where they come from `checked`.
 #[derive(Clone, Copy)]
 pub struct Settings {
     pub algorithm: usize,
     pub padding: usize,
     pub m: usize,
-}
-
-#[derive(Clone, Copy)]
-pub enum Checked {
-    Sound(Settings),
-    Unsound(usize),
 }
 
 impl Settings {
@@ -53,7 +49,7 @@ impl Settings {
 
     pub const MOST_BITS: usize = 8388608;
 
-    // The settings of an agreement, refused or not.
+    // The settings of an agreement, refused or not. (docs/PROMISES.md names this function, so it is no From.)
     pub fn of(agreement: Agreement) -> Settings
         ensures { result ≡ settings_of agreement }
     {
@@ -65,14 +61,15 @@ impl Settings {
     }
 
     // The settings, or the first refusal of 1 to 5; told are the keys in use, and how many bytes were given for them.
-    pub fn checked(agreement: Agreement, given: usize, keys: keys::KeyBlocks) -> Checked
-        ensures { result ≡ checked_of agreement given (key_bits keys) }
+    pub fn checked(
+        agreement: Agreement,
+        given: usize,
+        keys: keys::KeyBlocks,
+    ) -> Result<Settings, Refusal>
+        ensures { checked_told result ≡ checked_of agreement given (key_bits keys) }
     {
-        let no = refusal(agreement, given, keys);
-        if no == 0 {
-            return Checked::Sound(Settings::of(agreement));
-        }
-        Checked::Unsound(no)
+        refusal(agreement, given, keys)?;
+        Ok(Settings::of(agreement))
     }
 }
 
@@ -83,13 +80,11 @@ pub fn unpack(agreement: Agreement, given: &[u8]) -> keys::Unpacked
     keys::unpack(agreement.master, agreement.algorithm, given)
 }
 
+// Algorithms and paddings are the paper's numbers: any may come.
 fn algorithm_wrong(algorithm: usize) -> bool
     ensures { result ≡ algorithm_wrong algorithm }
 {
-    if algorithm < 1 {
-        return true;
-    }
-    Settings::LAST_ALGORITHM < algorithm
+    algorithm < 1 || Settings::LAST_ALGORITHM < algorithm
 }
 
 fn padding_wrong(algorithm: usize, padding: usize) -> bool
@@ -97,35 +92,35 @@ fn padding_wrong(algorithm: usize, padding: usize) -> bool
 {
     let row = mac::row_of(algorithm);
     if row.four {
-        return padding != 4;
+        padding != 4
+    } else {
+        padding < 1 || 3 < padding
     }
-    if padding < 1 {
-        return true;
-    }
-    3 < padding
 }
 
 fn size_wrong(algorithm: usize, m: usize) -> bool
     ensures { result ≡ size_wrong algorithm m }
 {
     let row = mac::row_of(algorithm);
-    if m < Settings::SHORTEST_TAG {
-        return true;
-    }
-    row.longest < m
+    m < Settings::SHORTEST_TAG || row.longest < m
 }
 
-// The first refusal of 1 to 5, and 0 where there is none.
-pub fn refusal(agreement: Agreement, given: usize, keys: keys::KeyBlocks) -> usize
-    ensures { result ≡ settings_refusal agreement given (key_bits keys) }
+// The first refusal of 1 to 5, if there is one.
+pub fn refusal(agreement: Agreement, given: usize, keys: keys::KeyBlocks) -> Result<(), Refusal>
+    ensures { number_in result ≡ settings_refusal agreement given (key_bits keys) }
 {
     let algorithm = agreement.algorithm;
-    let there = [
-        algorithm_wrong(algorithm),
-        padding_wrong(algorithm, agreement.padding),
-        size_wrong(algorithm, agreement.m),
-        keys::bytes_wrong(agreement.master, algorithm, given),
-        keys::same(algorithm, keys),
-    ];
-    bits::first(&[1, 2, 3, 4, 5], &there)
+    bits::first_fault(&[
+        (algorithm_wrong(algorithm), Refusal::Algorithm),
+        (
+            padding_wrong(algorithm, agreement.padding),
+            Refusal::Padding,
+        ),
+        (size_wrong(algorithm, agreement.m), Refusal::TagBits),
+        (
+            keys::bytes_wrong(agreement.master, algorithm, given),
+            Refusal::KeyBytes,
+        ),
+        (keys::same(algorithm, keys), Refusal::SameKeys),
+    ])
 }

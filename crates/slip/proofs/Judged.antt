@@ -1,34 +1,40 @@
--- What `read` and `read_under` rest on. The fields are refused first (`layout-refused`), then an agreement that is not met
--- (`unmet-refused`). After that the covered part has 22 to 53 bytes, so that of the refusals 7 to 10 of a check only 10 can come
--- (`check-first`), and the check's answer is turned into the slip's (`judged`). And a slip that is not refused has none of these
--- faults (`believed`).
+-- What `read` and `read_under` rest on. The fields are refused first (`layout-refused`; as the code lays them out, `laid-refused`), then
+-- an agreement that is not met (`unmet-refused`). After that the covered part has 22 to 53 bytes, so that of the refusals 7 to 10 of a
+-- check only 10 can come (`check-first`), and the check's answer is turned into the slip's (`judged`; as the code asks it, `answered`).
+-- And a slip that is not refused has none of these faults (`believed`).
 -- Assumes nothing.
 use mathlib.Core.Path.{◌≡◌, refl, sym, ap, ◌∙◌}
 use mathlib.Core.Bool.{Bool, true, false, not}
 use mathlib.Core.List.{List, [], ◌∷◌, ◌++◌, append_assoc}
-use Prim.Native.Nat.{ℕ, zero, suc, ◌+◌, ◌*◌, ◌≤◌}
+use Prim.Native.Nat.{ℕ, zero, suc, ◌+◌, ◌-◌, ◌*◌, ◌≤◌}
 use native.Mathlib.Omega.{arith}
+use Rattle.std.specs.Prelude.{Ok, Err}
 use lib.ListN.{length, take, drop, length-take, length-drop}
 use lib.Seq.{drop-drop}
 use lib.Dec.{eqb}
 use borrow.Author.Tests.{ne_eqb}
 use Rattle.bits.specs.Choice.{pick, Fault, ◌given◌, first_of}
 use Rattle.bits.specs.Str.{same_row}
+use Rattle.bits.proofs.Lists.{take_rest}
 use Rattle.bits.proofs.Faults.{Clear, passed, done, all, with, Numbered, first-clear, clear_first, clear-append, first-append, first-append-clear, first-same, every_append}
+use Rattle.refusals.specs.Number.{refusal_number, number_in}
+use Rattle.refusals.specs.declared.Refusal.{Refusal}
+use Rattle.refusals.proofs.Number.{refusal-numbered}
 use Rattle.settings.specs.InUse.{agreement_faults}
 use Rattle.settings.proofs.Sound.{agreement-numbered}
-use Rattle.settings.specs.Answers.{settings_of}
+use Rattle.settings.specs.Answers.{settings_of, Told, Accepted, Made, Yes, No, Refused, told}
 use Rattle.settings.specs.declared.Outcome.{Outcome}
-use Rattle.settings.specs.declared.Outcome.TheVariants.{Accepted, Made, Yes, No, Refused}
+use Rattle.settings.specs.declared.Outcome.TheVariants as outcome
 use Rattle.message.specs.Faults.{tag_length_wrong}
 use Rattle.tag.specs.OneCall.{one_call_faults, checked_by, check_of}
-use Rattle.fields.specs.Layout.{seal_at, seal_field, covered, layout_faults}
-use Rattle.fields.proofs.Inside.{seal-there}
-use Rattle.fields.proofs.Laid.{LaidOut, laid_out, layout-numbered, covered-least, covered-most}
+use Rattle.fields.specs.Layout.{places_of, seal_at, seal_field, covered, layout_faults, LayoutTold, layout_of, layout_told}
+use Rattle.fields.specs.declared.Layout.{Layout}
+use Rattle.fields.specs.declared.Places.{Places}
+use Rattle.fields.proofs.Inside.{lot-there, amount-there, seal-there, part-from}
+use Rattle.fields.proofs.Laid.{LaidOut, laid_out, layout-numbered, lot-place, seal-most, covered-least, covered-most}
 use Rattle.fields.proofs.Whole.{seal-value}
-use Rattle.slip.specs.Slip.{agreement_unmet, tag_named, seal_defined, seal_calls, seal_wrong, slip_faults, accepted_slip, refused_slip, read_of}
+use Rattle.slip.specs.Slip.{agreement_unmet, tag_named, seal_defined, seal_calls, seal_wrong, slip_faults, Reading, accepted_slip, refused_slip, read_of}
 use Rattle.settings.specs.declared.Agreement.{Agreement}
-use Rattle.slip.specs.declared.Slip.{Slip}
 use Rattle.slip.proofs.Seal.{only-ten}
 
 -- ---- a slip whose fields are clear
@@ -54,13 +60,9 @@ abbrev covered_bits : List ℕ → ℕ
 covered_bits s = 8 * length (covered s)
 
 module _ (s : List ℕ) where
-  pub covered-is : (at : ℕ) → at ≡ seal_at s → take at s ≡ covered s
+  seal-bits : 8 * seal_at s ≡ covered_bits s
   unfolding covered
-  covered-is at e = ap (λ (k : ℕ). take k s) e
-
-  pub covered-bits : (at : ℕ) → at ≡ seal_at s → 8 * at ≡ covered_bits s
-  unfolding covered
-  covered-bits at e = omega (arith, length-take (seal_at s) s, seal-there s)
+  seal-bits = omega (arith, length-take (seal_at s) s, seal-there s)
 
   module _ (A : Agreement) (keys : List ℕ) where
     -- the check's refusals without 7, 8 and 9
@@ -78,17 +80,14 @@ module _ (s : List ℕ) where
 
 module _ (s : List ℕ) (ok : LaidOut s) where
   -- the seal field is whole, so its first six bytes are there
-  pub seal-head-there : seal_at s + 6 ≤ length s
+  seal-head-there : seal_at s + 6 ≤ length s
   unfolding seal_field
   seal-head-there = omega (arith, length-drop (seal_at s) s, ok.seal.whole, ok.seal.allowed.low)
 
   -- the tag's bytes are all that is left after them
-  pub tag_is : (at : ℕ) → at ≡ seal_at s → drop (at + 6) s ≡ tag_named s
+  tag_is : drop (seal_at s + 6) s ≡ tag_named s
   unfolding tag_named seal_field
-  tag_is at e =
-      let f = seal_field s in
-      let six : seal_at s + (3 + 3) ≡ at + 6 = omega arith in
-      sym (ap (drop 3) (seal-value s ok) ∙ drop-drop 3 3 f ∙ drop-drop (3 + 3) (seal_at s) s ∙ ap (λ (k : ℕ). drop k s) six)
+  tag_is = sym (ap (drop 3) (seal-value s ok) ∙ drop-drop 3 3 (seal_field s) ∙ drop-drop 6 (seal_at s) s)
 
   -- a check refuses as those tests do
   check-first : (A : Agreement) (keys : List ℕ) → first_of (one_call_faults A keys (length (covered s)) (covered_bits s) (tag_length_wrong A.m (length (tag_named s)))) ≡ first_of (seal_tests s A keys)
@@ -96,6 +95,16 @@ module _ (s : List ℕ) (ok : LaidOut s) where
   check-first A keys =
       first-same (agreement_faults A keys) _ _
       (only-ten (settings_of A) (length (covered s)) (omega (arith, covered-least s ok)) (omega (arith, covered-most s ok)) (tag_length_wrong A.m (length (tag_named s))))
+
+-- ---- a slip whose fields are clear, by the places that the code has found
+
+module _ (s : List ℕ) (at : Places) (placed : at ≡ places_of s) (clear : first_of (layout_faults s) ≡ 0) where
+  pub places_in : (at.lot ≡ 11) × (at.lot ≤ length s) × (at.amount ≤ length s) × (at.seal ≤ 53) × (at.seal + 6 ≤ length s)
+  unfolding places_of
+  places_in = let ok = laid_out s clear in rw placed (lot-place s ok, lot-there s, amount-there s, seal-most s ok, seal-head-there s ok)
+
+-- for the checks of the functions that take them
+pub ruleset placing = (places_in, take_rest, length-take)
 
 -- ---- a slip that is refused
 
@@ -114,10 +123,41 @@ module _ (A : Agreement) (keys s : List ℕ) where
   pub unmet-refused : first_of (layout_faults s) ≡ 0 → agreement_unmet A (seal_field s) ≡ true → refused_slip 25 ≡ read_of A keys s
   unmet-refused clear unmet = refused-by 25 (unmet-first A keys s clear unmet) (λ z. absurd (omega arith))
 
+-- ---- the fields as the code lays them out
+
+module _ (s : List ℕ) (l : Layout) (laid : layout_told l ≡ layout_of s) where
+  pub laid-places : l.places ≡ places_of s
+  unfolding layout_of
+  laid-places = ap (λ (t : LayoutTold). t.places) laid
+
+  laid-first : number_in l.judged ≡ first_of (layout_faults s)
+  unfolding layout_of
+  laid-first = ap (λ (t : LayoutTold). t.refusal) laid
+
+  pub laid-refused : (A : Agreement) (keys : List ℕ) (r : Refusal) → l.judged ≡ Err r → refused_slip (refusal_number r) ≡ read_of A keys s
+  unfolding number_in
+  laid-refused A keys r e = layout-refused A keys s (refusal_number r) (rw e at laid-first) (λ z. absurd (omega (arith, refusal-numbered r)))
+
+  pub laid-clear : (u : Unit {0}) → l.judged ≡ Ok u → first_of (layout_faults s) ≡ 0
+  unfolding number_in
+  laid-clear u e = sym (rw e at laid-first)
+
+  -- the seal field as the code takes it
+  pub laid-compared : (A : Agreement) → agreement_unmet A (seal_field s) ≡ agreement_unmet A (take (length s - l.places.seal) (drop l.places.seal s))
+  unfolding places_of seal_field
+  laid-compared A = ap (agreement_unmet A) (sym (part-from s l.places.seal (seal_at s) (ap (λ (p : Places). p.seal) laid-places)))
+
+  pub laid-inside : l.places.seal ≤ length s
+  unfolding places_of
+  laid-inside = rw laid-places (seal-there s)
+
+-- for the check of `read`
+pub ruleset laying = (laid-inside)
+
 -- ---- from the check's answer to the slip's
 
 -- what the slip's answer is for each answer of the check
-unfoldable pub verdict : List ℕ → Outcome → Slip
+unfoldable pub verdict : List ℕ → Told → Reading
 verdict s Accepted = refused_slip 30
 verdict s (Made calls) = refused_slip 30
 verdict s (Yes calls) = accepted_slip s calls
@@ -161,6 +201,23 @@ module _ (s : List ℕ) (clear : first_of (layout_faults s) ≡ 0) (A : Agreemen
   pub judged : verdict s (check_of A keys (covered s) (covered_bits s) (tag_named s)) ≡ read_of A keys s
   unfolding check_of checked_by seal_defined seal_calls
   judged = by-fault _ refl
+
+-- ---- the check as the code asks it
+
+-- an answer of the check that is no yes
+pub not_yes : (s : List ℕ) (x : Outcome) → ((n : ℕ) → x ≡ outcome.Yes n → ⊥) → refused_slip 30 ≡ verdict s (told (Ok x))
+unfolding told verdict
+not_yes s outcome.Accepted none = refl
+not_yes s (outcome.Made n) none = refl
+not_yes s (outcome.Yes n) none = absurd (none n refl)
+not_yes s (outcome.No n) none = refl
+
+pub answered : (A : Agreement) (keys s : List ℕ) (at : Places) → (at ≡ places_of s) × (first_of (layout_faults s) ≡ 0) × (agreement_unmet A (seal_field s) ≡ false)
+    → (x : Told) → x ≡ check_of A keys (take at.seal s) (8 * at.seal) (take (length s - (at.seal + 6)) (drop (at.seal + 6) s)) → verdict s x ≡ read_of A keys s
+unfolding places_of covered
+answered A keys s at asked x e =
+    let here : x ≡ check_of A keys (covered s) (8 * seal_at s) (take (length s - (seal_at s + 6)) (drop (seal_at s + 6) s)) = rw asked.0 at e in
+    ap (verdict s) (here ∙ λ i. check_of A keys (covered s) (seal-bits s i) ((take_rest (seal_at s + 6) s ∙ tag_is s (laid_out s asked.1)) i)) ∙ judged s asked.1 A keys asked.2
 
 -- ---- a slip that is not refused
 

@@ -2,5 +2,5 @@
 #![tactic(auto)]
 
 fn main(rt: HostRuntime) {
-    tool::run(&rt);
+    tool::run::<tool::Slipcheck>(&rt);
 }

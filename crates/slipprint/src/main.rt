@@ -2,5 +2,5 @@
 #![tactic(auto)]
 
 fn main(rt: HostRuntime) {
-    tool::run_print(&rt);
+    tool::run::<tool::Slipprint>(&rt);
 }

@@ -6,12 +6,7 @@
 -- does any call on a struct whose phase, purpose or master is none that a session has (`c-odd-piece`, `c-odd-finish`,
 -- `c-odd-check`). Expected bytes past those of the agreed bits have no influence (`c-check-free`).
 -- Assumes nothing.
-use mathlib.Core.Path.{◌≡◌, refl, sym, ap, ◌∙◌, subst}
-use mathlib.Core.Bool.{Bool, true, false}
-use mathlib.Core.List.{List}
-use Prim.Native.Nat.{ℕ}
-use native.Mathlib.Omega.{arith}
-use lib.ListN.{take}
+use Rattle.std.proofs.Common.{◌≡◌, refl, sym, ap, ◌∙◌, subst, Bool, true, false, List, ℕ, arith, take}
 use contract.Lifetimes.{Lfts}
 use borrow.Fn.Kinds.{Dens}
 use Rattle.bits.specs.Choice.{pick}
@@ -21,17 +16,15 @@ use Rattle.bits.proofs.Same.{same_row-true, same_row-eq}
 use Rattle.mac.specs.Tag.{bytes_for}
 use Rattle.mac.specs.Session.{joined}
 use Rattle.settings.specs.InUse.{unpacked, in_use}
-use Rattle.settings.specs.Answers.{number_of, reported_calls}
+use Rattle.settings.specs.Answers.{Yes, No, number_of, reported_calls}
 use Rattle.settings.specs.declared.Agreement.{Agreement}
-use Rattle.settings.specs.declared.Outcome.TheVariants.{Yes, No}
 use Rattle.settings.proofs.Numbers.{Unrefused}
 use Rattle.tag.specs.OneCall.{check_of}
 use Rattle.tag.proofs.Numbers.{tagged, listed, verdict_of}
 use Rattle.session.specs.declared.Purpose.TheVariants as purpose
 use Rattle.session.specs.declared.Session as session
-use Rattle.session.specs.declared.Step as session-step
 use Rattle.session.specs.Record.{cleared, aimed}
-use Rattle.session.specs.Calls.{start_check_of, finish_check_of}
+use Rattle.session.specs.Calls.{Stepped, start_check_of, finish_check_of}
 use Rattle.session.proofs.Joined.{Act, handed, gathered, Running, joined-check}
 use Rattle.session.proofs.StaysOpen.{start-check-opens}
 use Rattle.session.proofs.AsOneCall.{Holds}
@@ -40,7 +33,7 @@ use Rattle.session.proofs.OtherPurpose.{other-finish, other-check, check-aimed}
 use Rattle.slipseal.specs.declared.Answer.{Answer}
 use Rattle.slipseal.specs.declared.Session.{Session}
 use Rattle.slipseal.specs.declared.Step.{Step}
-use Rattle.slipseal.specs.Border.{agreed_of, yes_of, told_of, purpose_from, inward, outward, handed_out, handed_back, finished_back}
+use Rattle.slipseal.specs.Border.{agreed_of, told_of, purpose_from, inward, outward, handed_out, handed_back, finished_back}
 use Rattle.slipseal.proofs.Crossing.{refused11, Odd, odd-piece, odd-finish, odd-check}
 use Rattle.slipseal.proofs.EachCall.{out-number, out-in, back-answer, back-out, Pieced, Finished, FinishedCheck, judging, finish-check-number}
 use Rattle.slipseal.proofs.Runs.{Run, run-inward}
@@ -61,7 +54,7 @@ Checking κs a = Allowed check-k.ps check-k.r check.Learnt κs a
 -- ---- one call
 
 -- the definition's start
-abbrev begun : (κs : Lfts 2) → Dens κs start-check-k.ps → session-step.Step
+abbrev begun : (κs : Lfts 2) → Dens κs start-check-k.ps → Stepped
 begun κs a = start_check_of (agreed_of a.0) a.1.0.now a.1.1.0 a.1.1.1.0.now
 
 module _ (κs : Lfts 2) (a : Dens κs start-check-k.ps) (x : StartedCheck κs a) where
@@ -82,7 +75,7 @@ module _ (κs : Lfts 1) (a : Dens κs finish-k.ps) (x : Finished κs a) where
   c-odd-finish h = both (x.ensures ∙ odd-finish a.0 h a.1.0.now)
 
   pub c-finish-other : a.0.purpose ≡ 1 → (x.result ≡ refused11 a.0) × (x.last.1.0 ≡ a.1.0.now)
-  unfolding inward purpose_from pick finished_back handed_back told_of number_of yes_of reported_calls
+  unfolding inward finished_back handed_back told_of pick number_of reported_calls
   c-finish-other e = both (x.ensures ∙ ap (finished_back a.0) (other-finish (inward a.0) checks-it a.1.0.now))
     where
       checks-it : (inward a.0).purpose ≡ purpose.Checking
@@ -93,7 +86,7 @@ module _ (κs : Lfts 0) (a : Dens κs finish-check-k.ps) (x : FinishedCheck κs 
   c-odd-check h = x.ensures ∙ odd-check a.0 h
 
   pub c-check-other : a.0.purpose ≡ 0 → x.result ≡ refused11 a.0
-  unfolding inward purpose_from pick handed_back told_of number_of yes_of reported_calls
+  unfolding inward handed_back told_of pick number_of reported_calls
   c-check-other e = x.ensures ∙ ap (handed_back a.0) (other-check (inward a.0) makes-it)
     where
       makes-it : (inward a.0).purpose ≡ purpose.Making
@@ -117,7 +110,7 @@ expecting_other e r = record {
 module _ (e : List ℕ) (κs : Lfts 0) (a : Dens κs finish-check-k.ps) (x : FinishedCheck κs a) (λs : Lfts 0) (b : Dens λs finish-check-k.ps) (y : FinishedCheck λs b) where
   pub c-check-free : a.0.purpose ≡ 1 → b.0 ≡ expecting_other e a.0 → take (bytes_for a.0.agreement.m) e ≡ take (bytes_for a.0.agreement.m) a.0.expected
       → y.result.answer ≡ x.result.answer
-  unfolding agreed_of inward aimed purpose_from pick
+  unfolding agreed_of inward aimed pick
   c-check-free mine same bytes =
       ap (λ (r : Step). r.answer) y.ensures ∙ back-answer b.0 (finish_check_of (inward b.0))
       ∙ ap (λ (r : Session). told_of (finish_check_of (inward r)).answer) same
@@ -129,7 +122,7 @@ module _ (e : List ℕ) (κs : Lfts 0) (a : Dens κs finish-check-k.ps) (x : Fin
 
 -- the answer to a verdict
 told-verdict : (b : Bool) (calls : ℕ) → told_of (pick b (Yes calls) (No calls)) ≡ record { number = 0; yes = pick b 1 0; calls = calls }
-unfolding told_of number_of yes_of reported_calls pick
+unfolding told_of number_of reported_calls pick
 told-verdict true calls = refl
 told-verdict false calls = refl
 
@@ -163,7 +156,7 @@ module _ (r : CheckRan) where
   d = r.given.1.1.0
 
   -- the definition's start and finish
-  abbrev ending : session-step.Step
+  abbrev ending : Stepped
   ending = finish_check_of (handed (start_check_of agreed keyed d expecting).session r.acts)
 
   began : inward r.first.result.session ≡ (start_check_of agreed keyed d expecting).session
@@ -176,7 +169,7 @@ module _ (r : CheckRan) where
   at-end = ap finish_check_of (run-inward r.between ∙ ap (λ (t : session.Session). handed t r.acts) began)
 
   judged-so : Unrefused ending.answer
-  judged-so = ap (λ (t : session-step.Step). number_of t.answer) (sym at-end) ∙ sym (finish-check-number r.finish-at r.came r.last) ∙ r.judged
+  judged-so = ap (λ (t : Stepped). number_of t.answer) (sym at-end) ∙ sym (finish-check-number r.finish-at r.came r.last) ∙ r.judged
 
   ends_so : r.last.result ≡ handed_out ending
   ends_so = r.last.ensures ∙ ap (handed_back r.came.0) at-end ∙ back-out r.came.0 ending judged-so

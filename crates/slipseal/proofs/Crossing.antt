@@ -4,12 +4,7 @@
 -- both finishes hand it back untouched (`odd-piece`, `odd-finish`, `odd-check`). In an agreement any number but 0 is a master
 -- (`any-yes`).
 -- Assumes nothing.
-use mathlib.Core.Path.{◌≡◌, refl, ap}
-use mathlib.Core.Bool.{Bool, true, false, not}
-use mathlib.Core.List.{List}
-use Prim.Native.Nat.{ℕ, ◌<◌}
-use borrow.Author.Tests.{lt-ltb, ne_eqb}
-use lib.Dec.{eqb, ltb}
+use Rattle.std.proofs.Common.{◌≡◌, refl, ap, Bool, true, false, not, List, ℕ, ◌<◌, lt-ltb, ne_eqb, eqb, ltb}
 use Rattle.bits.specs.Choice.{pick, first_of}
 use Rattle.bits.proofs.Choice.{either_way}
 use Rattle.settings.specs.Answers.{number_of, reported_calls}
@@ -24,12 +19,11 @@ use Rattle.session.specs.Calls.{piece_faults, piece_of, end_faults, finish_fault
 use Rattle.slipseal.specs.declared.Agreement.{Agreement}
 use Rattle.slipseal.specs.declared.Session.{Session}
 use Rattle.slipseal.specs.declared.Step.{Step}
-use Rattle.slipseal.specs.Border.{agreed_of, master_number, agreed_back, yes_of, told_of, phase_from, phase_number, part_number, purpose_from, purpose_number, inward, outward, handed_back, finished_back}
+use Rattle.slipseal.specs.Border.{agreed_of, agreed_back, phase_from, phase_number, part_number, purpose_from, purpose_number, inward, outward, handed_back, finished_back, told_of}
 
 -- ---- out and in
 
 two-purposes : (q : Purpose) → ltb 1 (purpose_number q) ≡ false
-unfolding purpose_number
 two-purposes Making = refl
 two-purposes Checking = refl
 
@@ -39,18 +33,18 @@ two-masters true = refl
 two-masters false = refl
 
 phase-back : (p : Phase) (q : Purpose) (b : Bool) → phase_from (phase_number p) (part_number p) (purpose_number q) (pick b 1 0) ≡ p
-unfolding phase_from phase_number part_number pick
+unfolding pick
 phase-back Closed q b = rw (two-purposes q, two-masters b) refl
 phase-back Edge q b = rw (two-purposes q, two-masters b) refl
 phase-back (Part n) q b = rw (two-purposes q, two-masters b) refl
 
 purpose-back : (q : Purpose) → purpose_from (purpose_number q) ≡ q
-unfolding purpose_from purpose_number pick
+unfolding pick
 purpose-back Making = refl
 purpose-back Checking = refl
 
 agreed-back : (A : settings-agreement.Agreement) → agreed_of (agreed_back A) ≡ A
-unfolding agreed_of agreed_back master_number pick
+unfolding agreed_of pick
 agreed-back A = go A.master
   where
     told : Bool → settings-agreement.Agreement
@@ -66,7 +60,7 @@ unfolding agreed_of
 any-yes A some = ap not (ne_eqb A.master 0 some)
 
 pub out-and-in : (s : session.Session) → inward (outward s) ≡ s
-unfolding inward outward agreed_back master_number
+unfolding inward
 out-and-in s = rw (phase-back s.phase s.purpose s.agreement.master, purpose-back s.purpose, agreed-back s.agreement) refl
 
 -- ---- in and out
@@ -93,13 +87,13 @@ pub record Fit (r : Session) : Type 0 where
   pub master : Flag r.agreement.master
 
 phase-same : (phase n q b : ℕ) → Proper phase n → Flag q → Flag b → (phase_number (phase_from phase n q b) ≡ phase) × (part_number (phase_from phase n q b) ≡ n)
-unfolding phase_from phase_number part_number pick
+unfolding pick
 phase-same _ _ q b shut h k = rw (not-odd q h, not-odd b k) (refl, refl)
 phase-same _ _ q b edge h k = rw (not-odd q h, not-odd b k) (refl, refl)
 phase-same _ _ q b (part n) h k = rw (not-odd q h, not-odd b k) (refl, refl)
 
 purpose-kept : (q : ℕ) → Flag q → purpose_number (purpose_from q) ≡ q
-unfolding purpose_from purpose_number pick
+unfolding pick
 purpose-kept _ off = refl
 purpose-kept _ on = refl
 
@@ -109,7 +103,7 @@ master-kept _ off = refl
 master-kept _ on = refl
 
 pub in-and-out : (r : Session) → Fit r → outward (inward r) ≡ r
-unfolding inward outward agreed_of agreed_back master_number
+unfolding inward agreed_of
 in-and-out r h =
     let both = phase-same r.phase r.part r.purpose r.agreement.master h.phase h.purpose h.master in
     rw (both.0, both.1, purpose-kept r.purpose h.purpose, master-kept r.agreement.master h.master) refl
@@ -126,25 +120,25 @@ module _ (r : Session) where
   Odd = phase_from r.phase r.part r.purpose r.agreement.master ≡ Closed
 
   pub odd-purpose : 1 < r.purpose → Odd
-  unfolding phase_from pick
+  unfolding pick
   odd-purpose h = rw (lt-ltb 1 r.purpose h) refl
 
   pub odd-master : 1 < r.agreement.master → Odd
-  unfolding phase_from pick
+  unfolding pick
   odd-master h = rw (lt-ltb 1 r.agreement.master h) (either_way (λ (p : Phase). p) (ltb 1 r.purpose) refl refl)
 
   odd-closed : Odd → counts_closed (inward r) ≡ true
-  unfolding counts_closed closed_faults first_of inward phase_unfit pick
+  unfolding inward counts_closed closed_faults first_of phase_unfit pick
   odd-closed e = rw e refl
 
   pub odd-piece : Odd → (bytes : List ℕ) (bits : ℕ) → handed_back r (piece_of (inward r) bytes bits) ≡ refused11 r
-  unfolding handed_back piece_of piece_faults first_of pick told_of number_of yes_of reported_calls
+  unfolding handed_back told_of piece_of piece_faults first_of pick number_of reported_calls
   odd-piece e bytes bits = rw (odd-closed e) refl
 
   pub odd-finish : Odd → (room : List ℕ) → finished_back r (finish_of (inward r) room) ≡ (refused11 r, room)
-  unfolding finished_back handed_back finish_of finish_faults end_faults first_of pick told_of number_of yes_of reported_calls
+  unfolding finished_back handed_back told_of finish_of finish_faults end_faults first_of pick number_of reported_calls
   odd-finish e room = rw (odd-closed e) refl
 
   pub odd-check : Odd → handed_back r (finish_check_of (inward r)) ≡ refused11 r
-  unfolding handed_back finish_check_of finish_check_faults end_faults first_of pick told_of number_of yes_of reported_calls
+  unfolding handed_back told_of finish_check_of finish_check_faults end_faults first_of pick number_of reported_calls
   odd-check e = rw (odd-closed e) refl

@@ -5,15 +5,9 @@
 -- (`c-start-open`, `c-piece-open`). Runs of calls stand in Runs.antt, the start of a check and runs that check a tag in
 -- CheckRuns.antt.
 -- Assumes nothing.
-use mathlib.Core.Path.{◌≡◌, refl, sym, ap, ◌∙◌}
-use mathlib.Core.Bool.{Bool, true, false}
-use mathlib.Core.List.{List, ◌++◌}
-use Prim.Native.Nat.{ℕ}
-use lib.Dec.{eqb}
-use lib.ListN.{length, take, drop}
+use Rattle.std.proofs.Common.{◌≡◌, refl, sym, ap, ◌∙◌, Bool, true, false, List, ◌++◌, ℕ, eqb, length, take, drop, rules, ne_eqb}
 use contract.Lifetimes.{Lfts}
-use borrow.Author.Rules.{rules}
-use borrow.Author.Tests.{ne_eqb, eqb-false}
+use borrow.Author.Tests.{eqb-false}
 use borrow.Fn.Kinds.{Dens, GoodsP}
 use Rattle.bits.specs.Choice.{pick}
 use Rattle.bits.proofs.Choice.{either_way}
@@ -22,22 +16,20 @@ use Rattle.bits.specs.Str.{Bits}
 use Rattle.mac.specs.Tag.{bits_of, bytes_for}
 use Rattle.mac.proofs.OneBlock.{Apart}
 use Rattle.settings.specs.InUse.{in_use}
-use Rattle.settings.specs.Answers.{number_of}
-use Rattle.settings.specs.declared.Outcome as settings
+use Rattle.settings.specs.Answers.{Told, number_of}
 use Rattle.settings.proofs.Numbers.{Unrefused}
 use Rattle.tag.specs.OneCall.{make_of}
 use Rattle.tag.proofs.Numbers.{tagged, made-of, refused-of}
 use Rattle.tag.proofs.SameUse.{SameUse, tagged-same}
 use Rattle.tag.proofs.Full.{n, size, full-differ}
-use Rattle.session.specs.declared.Step as session-step
-use Rattle.session.specs.Calls.{start_of, piece_of, finish_of, finish_check_of}
+use Rattle.session.specs.Calls.{Stepped, start_of, piece_of, finish_of, finish_check_of}
 use Rattle.session.proofs.OneStep.{Offered, refused-piece, refused-finish, refused-check}
 use Rattle.session.proofs.Joined.{Running}
 use Rattle.session.proofs.StaysOpen.{start-opens, piece-opens}
 use Rattle.slipseal.specs.declared.Answer.{Answer}
 use Rattle.slipseal.specs.declared.Session.{Session}
 use Rattle.slipseal.specs.declared.Step.{Step}
-use Rattle.slipseal.specs.Border.{agreed_of, told_of, told_make, inward, handed_out, handed_back, finished_back}
+use Rattle.slipseal.specs.Border.{agreed_of, told_of, inward, handed_out, handed_back, told_make, finished_back}
 use Rattle.slipseal.proofs.Crossing.{out-and-in}
 use Rattle.slipseal.proofs.slipseal_make.Kinds as make-k
 use Rattle.slipseal.proofs.slipseal_make.Reads as make
@@ -71,7 +63,7 @@ offered κs a = record { bytes = a.1.0.now; bits = a.1.1.0 }
 -- ---- what is handed out, and back
 
 -- the answer's number, and the record that the struct stands for
-module _ (t : session-step.Step) (r : Step) (e : r ≡ handed_out t) where
+module _ (t : Stepped) (r : Step) (e : r ≡ handed_out t) where
   pub out-number : r.answer.number ≡ number_of t.answer
   unfolding handed_out told_of
   out-number = ap (λ (r : Step). r.answer.number) e
@@ -80,7 +72,7 @@ module _ (t : session-step.Step) (r : Step) (e : r ≡ handed_out t) where
   unfolding handed_out
   out-in = ap (λ (r : Step). inward r.session) e ∙ out-and-in t.session
 
-module _ (came : Session) (t : session-step.Step) where
+module _ (came : Session) (t : Stepped) where
   -- the answer, refused or not
   pub back-answer : (handed_back came t).answer ≡ told_of t.answer
   unfolding handed_back handed_out
@@ -113,7 +105,7 @@ module _ (came : Session) (t : session-step.Step) where
 
 -- what was given, and what the definition answers
 module _ (κs : Lfts 3) (a : Dens κs make-k.ps) where
-  abbrev one : settings.Outcome × List ℕ
+  abbrev one : Told × List ℕ
   one = make_of (agreed_of a.0) a.1.0.now a.1.1.0.now a.1.1.1.0 a.1.1.1.1.0.now
 
   abbrev pub bits_given : Bits
@@ -133,10 +125,10 @@ module _ (κs : Lfts 3) (a : Dens κs make-k.ps) (x : Making κs a) where
   make-left = ap (λ (r : Answer × List ℕ). r.1) x.ensures
 
   pub c-make-untouched : ¬ (x.result.number ≡ 0) → room_left ≡ a.1.1.1.1.0.now
-  c-make-untouched u = make-left ∙ ap (λ (r : settings.Outcome × List ℕ). r.1) (refused-of (agreed_of a.0) a.1.0.now a.1.1.0.now a.1.1.1.0 a.1.1.1.1.0.now (λ z. u (make-answer ∙ z)))
+  c-make-untouched u = make-left ∙ ap (λ (r : Told × List ℕ). r.1) (refused-of (agreed_of a.0) a.1.0.now a.1.1.0.now a.1.1.1.0 a.1.1.1.1.0.now (λ z. u (make-answer ∙ z)))
 
   make-made : x.result.number ≡ 0 → room_left ≡ tagged (agreed_of a.0) (in_use (agreed_of a.0) a.1.0.now) (bits_given κs a) ++ drop (bytes_for (agreed_of a.0).m) a.1.1.1.1.0.now
-  make-made u = make-left ∙ ap (λ (r : settings.Outcome × List ℕ). r.1) (made-of (agreed_of a.0) a.1.0.now a.1.1.0.now a.1.1.1.0 a.1.1.1.1.0.now (sym make-answer ∙ u))
+  make-made u = make-left ∙ ap (λ (r : Told × List ℕ). r.1) (made-of (agreed_of a.0) a.1.0.now a.1.1.0.now a.1.1.1.0 a.1.1.1.1.0.now (sym make-answer ∙ u))
 
 module _ (κs : Lfts 3) (a : Dens κs make-k.ps) (x : Making κs a) (λs : Lfts 3) (b : Dens λs make-k.ps) (y : Making λs b) where
   pub c-make-differs : SameUse (agreed_of a.0) a.1.0.now (agreed_of b.0) b.1.0.now → a.0.m ≡ n → x.result.number ≡ 0 → y.result.number ≡ 0
@@ -150,16 +142,16 @@ module _ (κs : Lfts 3) (a : Dens κs make-k.ps) (x : Making κs a) (λs : Lfts 
 -- ---- a session's calls
 
 -- the definition's start, piece and finishes
-abbrev pub begun : (κs : Lfts 1) → Dens κs start-k.ps → session-step.Step
+abbrev pub begun : (κs : Lfts 1) → Dens κs start-k.ps → Stepped
 begun κs a = start_of (agreed_of a.0) a.1.0.now a.1.1.0
 
-abbrev fed : (κs : Lfts 1) → Dens κs piece-k.ps → session-step.Step
+abbrev fed : (κs : Lfts 1) → Dens κs piece-k.ps → Stepped
 fed κs a = piece_of (inward a.0) a.1.0.now a.1.1.0
 
-abbrev closing : (κs : Lfts 1) → Dens κs finish-k.ps → session-step.Step × List ℕ
+abbrev closing : (κs : Lfts 1) → Dens κs finish-k.ps → Stepped × List ℕ
 closing κs a = finish_of (inward a.0) a.1.0.now
 
-abbrev pub judging : (κs : Lfts 0) → Dens κs finish-check-k.ps → session-step.Step
+abbrev pub judging : (κs : Lfts 0) → Dens κs finish-check-k.ps → Stepped
 judging κs a = finish_check_of (inward a.0)
 
 module _ (κs : Lfts 1) (a : Dens κs start-k.ps) (x : Started κs a) where

@@ -1,26 +1,25 @@
 -- Which numbers the functions for C can answer: 0 and those of each one's order, of every answer that the contracts allow. The
 -- retired 6 is not among them.
 -- Assumes nothing.
-use mathlib.Core.Path.{sym, subst}
-use mathlib.Core.List.{List}
-use Prim.Native.Nat.{ℕ}
+use Rattle.std.proofs.Common.{sym, subst, List, ℕ}
 use contract.Lifetimes.{Lfts}
 use borrow.Fn.Kinds.{Dens}
 use Rattle.settings.specs.Answers.{number_of}
 use Rattle.settings.proofs.Listed.{Among}
 use Rattle.tag.proofs.Listed.{call_answers, restore_answers, make-among, check-among, restore-among}
-use Rattle.session.specs.declared.Step as session-step
+use Rattle.session.specs.Calls.{Stepped}
 use Rattle.session.proofs.Listed.{start_answers, start_check_answers, piece_answers, finish_answers, finish_check_answers, start-among, start-check-among, piece-among, finish-among, finish-check-among}
 use Rattle.slip.specs.Gathering.{held}
 use Rattle.slip.proofs.Numbers.{slip_answers, slip-among}
 use Rattle.slip.proofs.Printable.{write_answers}
-use Rattle.slip.proofs.PrintedAnswers.{write-answers}
+use Rattle.slip.proofs.PrintedTold.{told-among}
+use Rattle.slip.proofs.PrintedAnswers.{keys_given, says_given, room_given}
 use Rattle.slipseal.specs.declared.Answer.{Answer}
 use Rattle.slipseal.specs.declared.Session.{Session}
 use Rattle.slipseal.specs.declared.Step.{Step}
 use Rattle.slipseal.specs.declared.Slip.{Slip}
-use Rattle.slipseal.specs.Border.{agreed_of, told_of, told_make, told_restored, told_slip, inward, handed_out, handed_back, finished_back}
-use Rattle.slipseal.proofs.AsAgreed.{as_write, Written, as_written}
+use Rattle.slipseal.specs.Border.{agreed_of, inward, handed_back, told_of, told_make, told_restored, told_slip, handed_out, finished_back}
+use Rattle.slipseal.proofs.AsAgreed.{as_write, Written, written_told}
 use Rattle.slipseal.proofs.EachCall.{Making, Started, Pieced, Finished, FinishedCheck, back-answer}
 use Rattle.slipseal.proofs.CheckRuns.{StartedCheck, Checking}
 use Rattle.slipseal.proofs.Slips.{Read}
@@ -67,7 +66,7 @@ module _ (κs : Lfts 1) where
   c-start-answers a x = subst (λ (r : Step). Among start_answers r.answer.number) (sym x.ensures) (start-among (agreed_of a.0) a.1.0.now a.1.1.0)
 
 -- what is handed back has the session's own number
-back-among : (ks : List ℕ) (came : Session) (t : session-step.Step) → Among ks (number_of t.answer) → Among ks (handed_back came t).answer.number
+back-among : (ks : List ℕ) (came : Session) (t : Stepped) → Among ks (number_of t.answer) → Among ks (handed_back came t).answer.number
 unfolding told_of
 back-among ks came t h = subst (λ (r : Answer). Among ks r.number) (sym (back-answer came t)) h
 
@@ -98,4 +97,4 @@ unfolding told_slip
 c-read-gathered-answers κs a x = subst (λ (r : Slip). Among slip_answers r.number) (sym x.ensures) (slip-among (agreed_of a.0) a.1.0.now (held a.1.1.0))
 
 pub c-write-answers : (κs : Lfts 3) (a : Dens κs write-k.ps) (x : Written κs a) → Among write_answers x.result.number
-c-write-answers κs a x = write-answers κs (as_write κs a) (as_written κs a x)
+c-write-answers κs a x = let w = as_write κs a in told-among w.0 (keys_given κs w) (says_given κs w) (room_given κs w) _ _ (written_told κs a x)

@@ -6,10 +6,8 @@
 -- count of 76 at most and zeros past it (`c-gather-sound`). `slipseal_gather` keeps the contract of `add` word for word, so its
 -- answers are that function's.
 -- Assumes nothing.
-use mathlib.Core.Path.{◌≡◌, refl, sym, ap, ◌∙◌}
-use mathlib.Core.List.{List, [], ◌++◌, flatten}
-use Prim.Native.Nat.{ℕ}
-use lib.ListN.{take, drop, replicate}
+use Rattle.std.proofs.Common.{◌≡◌, refl, sym, ap, ◌∙◌, List, [], ◌++◌, ℕ, take, drop, replicate}
+use mathlib.Core.List.{flatten}
 use contract.Lifetimes.{Lfts}
 use borrow.Fn.Kinds.{Dens}
 use Rattle.bits.specs.Once.{Allowed}

@@ -8,24 +8,17 @@
 -- `c-restore-whatever`: what the block held has no influence.
 -- `c-restore-back`: out of a tag that `slipseal_check` says yes to, a block of the message that is lost comes back.
 -- Assumes nothing.
-use mathlib.Core.Path.{◌≡◌, refl, sym, ap, ◌∙◌, subst}
-use mathlib.Core.Bool.{Bool, true, false}
-use mathlib.Core.List.{List, [], ◌∷◌}
-use Prim.Native.Nat.{ℕ, suc, ◌*◌, ◌≤◌, ◌<◌}
-use native.Mathlib.Omega.{arith}
-use lib.ListN.{length, get_or}
+use Rattle.std.proofs.Common.{◌≡◌, refl, sym, ap, ◌∙◌, subst, Bool, true, false, List, [], ◌∷◌, ℕ, suc, ◌*◌, ◌≤◌, ◌<◌, arith, length, get_or, eqb-true}
 use contract.Lifetimes.{Lfts}
 use borrow.Fn.Kinds.{Dens}
-use borrow.Author.Tests.{eqb-true}
 use Rattle.bits.specs.Choice.{pick, ◌given◌, first_of}
 use Rattle.bits.specs.Once.{Allowed}
 use Rattle.bits.proofs.Same.{same_row-eq}
 use Rattle.mac.specs.Tag.{bits_of}
 use Rattle.settings.specs.InUse.{in_use}
-use Rattle.settings.specs.Answers.{number_of}
+use Rattle.settings.specs.Answers.{Yes, No, Refused, number_of}
 use Rattle.settings.specs.Faults.{padding_wrong}
 use Rattle.settings.specs.declared.Agreement.{Agreement}
-use Rattle.settings.specs.declared.Outcome.TheVariants.{Yes, No, Refused}
 use Rattle.tag.specs.OneCall.{tag_at, checked_by, check_of}
 use Rattle.tag.specs.Restore.{with_block, restore_of}
 use Rattle.tag.proofs.Numbers.{tagged, CheckAt, check_fault}
@@ -50,7 +43,7 @@ module _ (λs : Lfts 3) (b : Dens λs check-k.ps) (z : Checking λs b) {A : Agre
 
 -- only a yes is told as one
 yes-told : (b d : Bool) (calls number : ℕ) → yes_of (pick b (pick d (Yes calls) (No calls)) (Refused number)) ≡ 1 → (b ≡ true) × (d ≡ true)
-unfolding pick yes_of
+unfolding pick
 yes-told true true calls number e = (refl, refl)
 yes-told true false calls number e = absurd (omega arith)
 yes-told false d calls number e = absurd (omega arith)
@@ -96,7 +89,7 @@ module _ (κs : Lfts 3) (a : Dens κs restore-k.ps) (x : Restoring κs a) where
 
       pub c-restore-checks : ((i : ℕ) → get_or t i 0 < 256) → (λs : Lfts 3) (b : Dens λs check-k.ps) (z : Checking λs b) → CheckAt λs (as_check λs b) A s message_left l t
           → (z.result.number ≡ 0) × (z.result.yes ≡ 1)
-      unfolding told_of number_of yes_of
+      unfolding told_of number_of
       c-restore-checks bytes λs b z bt =
           let says = check-at λs b z bt ∙ ap told_of (ap (λ (m : List ℕ). check_of A s m l t) left_is ∙ left-checks A s message l j t none bytes) in
           (ap (λ (r : Answer). r.number) says, ap (λ (r : Answer). r.yes) says)

@@ -4,10 +4,7 @@
 -- definition's tag, calls and room for the joined bits of its accepted pieces (`c-joined`), and two such runs of full tags keep
 -- demand 3 (`c-runs-differ`).
 -- Assumes nothing.
-use mathlib.Core.Path.{◌≡◌, refl, sym, ap, ◌∙◌}
-use mathlib.Core.List.{List, [], ◌∷◌, ◌++◌}
-use Prim.Native.Nat.{ℕ}
-use lib.ListN.{take, drop}
+use Rattle.std.proofs.Common.{◌≡◌, refl, sym, ap, ◌∙◌, List, [], ◌∷◌, ◌++◌, ℕ, take, drop}
 use contract.Lifetimes.{Lfts}
 use borrow.Fn.Kinds.{Dens}
 use Rattle.bits.specs.Choice.{pick}
@@ -28,7 +25,7 @@ use Rattle.session.specs.Calls.{start_of, finish_of}
 use Rattle.session.proofs.Joined.{Act, offers, ends, checks, answered, handed, gathered, ending, joined-bits}
 use Rattle.slipseal.specs.declared.Session.{Session}
 use Rattle.slipseal.specs.declared.Step.{Step}
-use Rattle.slipseal.specs.Border.{agreed_of, yes_of, told_of, inward, outward, handed_out, handed_back, finished_back}
+use Rattle.slipseal.specs.Border.{agreed_of, inward, outward, finished_back, told_of, handed_out, handed_back}
 use Rattle.slipseal.proofs.EachCall.{Started, Pieced, Finished, FinishedCheck, offered, out-number, out-in, begun, piece-in, finish-number, finish-in, finish-check-in}
 use Rattle.slipseal.proofs.slipseal_start.Kinds as start-k
 use Rattle.slipseal.proofs.slipseal_piece.Kinds as piece-k
@@ -84,7 +81,7 @@ module _ (r : Ran) where
   )
 
   pub c-joined : (r.last.result, left) ≡ Ended
-  unfolding finished_back handed_back handed_out told_of yes_of number_of reported_calls pick
+  unfolding finished_back handed_back handed_out told_of number_of reported_calls pick
   c-joined =
       let room = r.came.1.0.now in
       let d = r.given.1.1.0 in

@@ -1,6 +1,6 @@
 -- No second answer satisfies the contract of any function for C: each is one equation of structs, and of the lent room.
 -- Assumes nothing.
-use mathlib.Core.Path.{refl}
+use Rattle.std.proofs.Common.{refl}
 use Rattle.bits.specs.Once.{Unique}
 use Rattle.bits.proofs.Same.{same}
 use Rattle.slipseal.proofs.slipseal_make.Kinds as make-k

@@ -3,14 +3,19 @@
 #![tactic(auto)]
 
 ghost use Rattle.std.specs.Prelude.{◌≡◌};
+ghost use Rattle.settings.specs.Answers.{told};
 ghost use Rattle.tag.specs.OneCall.{make_of, check_of};
-ghost use Rattle.tag.specs.Restore.{restore_of, restored_number};
-ghost use Rattle.session.specs.Calls.{start_of, start_check_of, piece_of, finish_of, finish_check_of};
-ghost use Rattle.slip.specs.Slip.{read_of};
+ghost use Rattle.tag.specs.Restore.{restore_of};
+ghost use Rattle.session.specs.Calls.{stepped, start_of, start_check_of, piece_of, finish_of, finish_check_of};
+ghost use Rattle.slip.specs.Slip.{reading, read_of};
 ghost use Rattle.slip.specs.Gathering.{held, add_of};
-ghost use Rattle.slip.specs.Printed.{write_of};
+ghost use Rattle.slip.specs.Printed.{writing, write_of};
 ghost use Rattle.writing.specs.Writing.{said};
-ghost use Rattle.slipseal.specs.Border.{agreed_of, master_number, agreed_back, told_of, told_make, told_restored, told_slip, phase_from, phase_number, part_number, purpose_from, purpose_number, inward, outward, handed_out, handed_back, finished_back};
+ghost use Rattle.slipseal.specs.Border.{agreed_of, agreed_back, told_of, told_make, told_restored, told_slip, told_written, told_write, phase_from, phase_number, part_number, purpose_from, purpose_number, inward, outward, handed_out, handed_back, finished_back};
+
+use refusals::Refusal;
+use session::{Phase, Purpose};
+use settings::Outcome;
 
 // master: 0 for no, any other number for yes; in a session 0 or 1.
 #[repr(C)]
@@ -24,7 +29,7 @@ pub struct Agreement {
 
 // number: 0, or the refusal's. yes: 1 for a tag made and for a tag checked to be right, in one call or at a finish; else 0.
 #[repr(C)]
-#[derive(Clone, Copy)]
+#[derive(Clone, Copy, Default)]
 pub struct Answer {
     pub number: usize,
     pub yes: usize,
@@ -49,7 +54,7 @@ pub struct Session {
 
 // number: 0, or the refusal's. The lot is the lot_len bytes of the slip from lot_at on.
 #[repr(C)]
-#[derive(Clone, Copy)]
+#[derive(Clone, Copy, Default)]
 pub struct Slip {
     pub number: usize,
     pub year: usize,
@@ -61,6 +66,15 @@ pub struct Slip {
     pub lot_len: usize,
 }
 
+// number: 0, or the refusal's.
+#[repr(C)]
+#[derive(Clone, Copy, Default)]
+pub struct Written {
+    pub number: usize,
+    pub length: usize,
+    pub calls: usize,
+}
+
 #[repr(C)]
 #[derive(Clone, Copy)]
 pub struct Step {
@@ -70,71 +84,61 @@ pub struct Step {
 
 // ---- what was agreed
 
-fn agreed(came: Agreement) -> settings::Agreement
-    ensures { result ≡ agreed_of came }
-{
-    settings::Agreement {
-        algorithm: came.algorithm,
-        padding: came.padding,
-        m: came.m,
-        master: came.master != 0,
+impl From<Agreement> for settings::Agreement {
+    ghost from_gives = { λ came agreement. agreement ≡ agreed_of came };
+
+    #[tactic(auto, unfolding(crate::specs::Border::agreed_of))]
+    fn from(came: Agreement) -> settings::Agreement {
+        settings::Agreement {
+            algorithm: came.algorithm,
+            padding: came.padding,
+            m: came.m,
+            master: came.master != 0,
+        }
     }
 }
 
-fn master_number(master: bool) -> usize
-    ensures { result ≡ master_number master }
-{
-    if master {
-        return 1;
-    }
-    0
-}
+impl From<settings::Agreement> for Agreement {
+    ghost from_gives = { λ agreement back. back ≡ agreed_back agreement };
 
-fn agreed_back(agreement: settings::Agreement) -> Agreement
-    ensures { result ≡ agreed_back agreement }
-{
-    Agreement {
-        algorithm: agreement.algorithm,
-        padding: agreement.padding,
-        m: agreement.m,
-        master: master_number(agreement.master),
+    #[tactic(auto, unfolding(bits::specs::Choice::pick))]
+    fn from(agreement: settings::Agreement) -> Agreement {
+        Agreement {
+            algorithm: agreement.algorithm,
+            padding: agreement.padding,
+            m: agreement.m,
+            master: agreement.master.into(),
+        }
     }
 }
 
 // ---- answers
 
-fn told(answer: settings::Outcome) -> Answer
-    ensures { result ≡ told_of answer }
-{
-    match answer {
-        settings::Outcome::Accepted => Answer {
-            number: 0,
-            yes: 0,
-            calls: 0,
-        },
-        settings::Outcome::Made(calls) => Answer {
-            number: 0,
-            yes: 1,
-            calls,
-        },
-        settings::Outcome::Yes(calls) => Answer {
-            number: 0,
-            yes: 1,
-            calls,
-        },
-        settings::Outcome::No(calls) => Answer {
-            number: 0,
-            yes: 0,
-            calls,
-        },
-        settings::Outcome::Refused(number) => Answer {
-            number,
-            yes: 0,
-            calls: 0,
-        },
+impl From<Result<Outcome, Refusal>> for Answer {
+    ghost from_gives = { λ answer out. out ≡ told_of (told answer) };
+
+    #[tactic(auto, unfolding(crate::specs::Border::told_of, settings::specs::Answers::told, settings::specs::Answers::number_of, settings::specs::Answers::reported_calls))]
+    fn from(answer: Result<Outcome, Refusal>) -> Answer {
+        match answer {
+            Ok(Outcome::Accepted) => Answer::default(),
+            Ok(Outcome::Made(calls) | Outcome::Yes(calls)) => Answer {
+                yes: 1,
+                calls,
+                ..Answer::default()
+            },
+            Ok(Outcome::No(calls)) => Answer {
+                calls,
+                ..Answer::default()
+            },
+            Err(refusal) => Answer {
+                number: refusal.number(),
+                ..Answer::default()
+            },
+        }
     }
 }
 
+#[tactic(auto, unfolding(crate::specs::Border::told_make))]
 pub fn slipseal_make(
     agreement: Agreement,
     keys: &[u8],
@@ -144,7 +148,7 @@ pub fn slipseal_make(
 ) -> Answer
     ensures { (result, room.new) ≡ told_make (make_of (agreed_of agreement) keys.now message.now bits room.old) }
 {
-    told(tag::make(agreed(agreement), keys, message, bits, room))
+    tag::make(agreement.into(), keys, message, bits, room).into()
 }
 
 pub fn slipseal_check(
@@ -156,19 +160,10 @@ pub fn slipseal_check(
 ) -> Answer
     ensures { result ≡ told_of (check_of (agreed_of agreement) keys.now message.now bits offered.now) }
 {
-    told(tag::check(agreed(agreement), keys, message, bits, offered))
+    tag::check(agreement.into(), keys, message, bits, offered).into()
 }
 
-// 0, or the refusal's number.
-fn restored_number(answer: tag::Restored) -> usize
-    ensures { result ≡ restored_number answer }
-{
-    match answer {
-        tag::Restored::Filled => 0,
-        tag::Restored::Refused(number) => number,
-    }
-}
-
+#[tactic(auto, unfolding(crate::specs::Border::told_restored, tag::specs::Restore::restored_told, tag::specs::Restore::restored_number))]
 pub fn slipseal_restore(
     agreement: Agreement,
     keys: &[u8],
@@ -179,206 +174,222 @@ pub fn slipseal_restore(
 ) -> usize
     ensures { (result, message.new) ≡ told_restored (restore_of (agreed_of agreement) keys.now message.old bits block offered.now) }
 {
-    restored_number(tag::restore(agreed(agreement), keys, message, bits, block, offered))
+    match tag::restore(agreement.into(), keys, message, bits, block, offered) {
+        Ok(()) => 0,
+        Err(refusal) => refusal.number(),
+    }
 }
 
-// ---- a session in and out
+// ---- a session in and out (docs/CHANGING.md names `phase_from`; of the other functions neither side is a type of this crate)
 
 // A purpose or a master other than 0 and 1 closes the session, whatever its phase.
-fn phase_from(phase: usize, part: usize, purpose: usize, master: usize) -> session::Phase
-    ensures { result ≡ phase_from phase part purpose master }
+#[tactic(auto, unfolding(bits::specs::Choice::pick))]
+fn phase_from(came: Session) -> Phase
+    ensures { result ≡ phase_from came.phase came.part came.purpose came.agreement.master }
 {
-    if 1 < purpose {
-        return session::Phase::Closed;
+    if 1 < came.purpose || 1 < came.agreement.master {
+        Phase::Closed
+    } else {
+        match (came.phase, came.part) {
+            (1, 0) => Phase::Edge,
+            (2, part) => Phase::Part(part),
+            _ => Phase::Closed,
+        }
     }
-    if 1 < master {
-        return session::Phase::Closed;
-    }
-    if phase == 2 {
-        return session::Phase::Part(part);
-    }
-    if phase != 1 {
-        return session::Phase::Closed;
-    }
-    if part != 0 {
-        return session::Phase::Closed;
-    }
-    session::Phase::Edge
 }
 
-fn phase_number(phase: session::Phase) -> usize
-    ensures { result ≡ phase_number phase }
+fn phase_numbers(phase: Phase) -> (usize, usize)
+    ensures { result ≡ (phase_number phase, part_number phase) }
 {
     match phase {
-        session::Phase::Closed => 0,
-        session::Phase::Edge => 1,
-        session::Phase::Part(_) => 2,
+        Phase::Closed => (0, 0),
+        Phase::Edge => (1, 0),
+        Phase::Part(part) => (2, part),
     }
 }
 
-fn part_number(phase: session::Phase) -> usize
-    ensures { result ≡ part_number phase }
-{
-    match phase {
-        session::Phase::Closed => 0,
-        session::Phase::Edge => 0,
-        session::Phase::Part(n) => n,
-    }
-}
-
-fn purpose_from(purpose: usize) -> session::Purpose
+#[tactic(auto, unfolding(bits::specs::Choice::pick))]
+fn purpose_from(purpose: usize) -> Purpose
     ensures { result ≡ purpose_from purpose }
 {
-    if purpose == 1 {
-        return session::Purpose::Checking;
+    match purpose {
+        1 => Purpose::Checking,
+        _ => Purpose::Making,
     }
-    session::Purpose::Making
 }
 
-fn purpose_number(purpose: session::Purpose) -> usize
+fn purpose_number(purpose: Purpose) -> usize
     ensures { result ≡ purpose_number purpose }
 {
     match purpose {
-        session::Purpose::Making => 0,
-        session::Purpose::Checking => 1,
+        Purpose::Making => 0,
+        Purpose::Checking => 1,
     }
 }
 
-fn session_from(came: Session) -> session::Session
-    ensures { result ≡ inward came }
-{
-    let named = came.agreement;
-    let phase = phase_from(came.phase, came.part, came.purpose, named.master);
-    let purpose = purpose_from(came.purpose);
-    let agreement = agreed(named);
-    let keys = came.keys;
-    let value = came.chain;
-    let held = came.held;
-    let hold = chain::Hold { value, held };
-    let expected = came.expected;
-    session::Session {
-        phase,
-        purpose,
-        agreement,
-        declared: came.declared,
-        total: came.total,
-        keys,
-        hold,
-        expected,
+impl From<Session> for session::Session {
+    ghost from_gives = { λ came s. s ≡ inward came };
+
+    #[tactic(auto, unfolding(crate::specs::Border::inward))]
+    fn from(came: Session) -> session::Session {
+        let Session {
+            declared,
+            total,
+            keys,
+            chain,
+            held,
+            expected,
+            ..
+        } = came;
+        session::Session {
+            phase: phase_from(came),
+            purpose: purpose_from(came.purpose),
+            agreement: came.agreement.into(),
+            declared,
+            total,
+            keys,
+            hold: chain::Hold { value: chain, held },
+            expected,
+        }
     }
 }
 
-fn session_out(s: session::Session) -> Session
-    ensures { result ≡ outward s }
-{
-    let phase = s.phase;
-    let purpose = s.purpose;
-    let kept = s.agreement;
-    let agreement = agreed_back(kept);
-    let keys = s.keys;
-    let hold = s.hold;
-    let chain = hold.value;
-    let held = hold.held;
-    let expected = s.expected;
-    Session {
-        phase: phase_number(phase),
-        part: part_number(phase),
-        purpose: purpose_number(purpose),
-        agreement,
-        declared: s.declared,
-        total: s.total,
-        keys,
-        chain,
-        held,
-        expected,
+impl From<session::Session> for Session {
+    ghost from_gives = { λ s out. out ≡ outward s };
+
+    fn from(s: session::Session) -> Session {
+        let (phase, part) = phase_numbers(s.phase);
+        let session::Session {
+            declared,
+            total,
+            keys,
+            hold: chain::Hold { value, held },
+            expected,
+            ..
+        } = s;
+        Session {
+            phase,
+            part,
+            purpose: purpose_number(s.purpose),
+            agreement: s.agreement.into(),
+            declared,
+            total,
+            keys,
+            chain: value,
+            held,
+            expected,
+        }
     }
 }
 
 // The answer with the session handed on.
-fn handed_out(step: session::Step) -> Step
-    ensures { result ≡ handed_out step }
-{
-    let answer = step.answer;
-    let next = step.session;
-    let told_answer = told(answer);
-    let record = session_out(next);
-    Step {
-        answer: told_answer,
-        session: record,
+impl From<session::Step> for Step {
+    ghost from_gives = { λ step out. out ≡ handed_out (stepped step) };
+
+    #[tactic(auto, unfolding(crate::specs::Border::handed_out))]
+    fn from(step: session::Step) -> Step {
+        Step {
+            answer: step.answer.into(),
+            session: step.session.into(),
+        }
     }
 }
 
 // The answer with the session handed on; in a refusal with the struct that came.
+#[tactic(auto, unfolding(crate::specs::Border::handed_back, crate::specs::Border::handed_out, crate::specs::Border::told_of, bits::specs::Choice::pick, settings::specs::Answers::told, settings::specs::Answers::number_of))]
 fn handed_back(came: Session, step: session::Step) -> Step
-    ensures { result ≡ handed_back came step }
+    ensures { result ≡ handed_back came (stepped step) }
 {
-    let out = handed_out(step);
-    let answer = out.answer;
-    let number = answer.number;
-    if number == 0 {
-        return out;
-    }
-    Step {
-        answer,
-        session: came,
+    let out = Step::from(step);
+    match step.answer {
+        Ok(_) => out,
+        Err(_) => Step {
+            session: came,
+            ..out
+        },
     }
 }
 
 pub fn slipseal_start(agreement: Agreement, keys: &[u8], declared: usize) -> Step
     ensures { result ≡ handed_out (start_of (agreed_of agreement) keys.now declared) }
 {
-    handed_out(session::start(agreed(agreement), keys, declared))
+    session::start(agreement.into(), keys, declared).into()
 }
 
 pub fn slipseal_start_check(agreement: Agreement, keys: &[u8], declared: usize, tag: &[u8]) -> Step
     ensures { result ≡ handed_out (start_check_of (agreed_of agreement) keys.now declared tag.now) }
 {
-    handed_out(session::start_check(agreed(agreement), keys, declared, tag))
+    session::start_check(agreement.into(), keys, declared, tag).into()
 }
 
 pub fn slipseal_piece(came: Session, bytes: &[u8], bits: usize) -> Step
     ensures { result ≡ handed_back came (piece_of (inward came) bytes.now bits) }
 {
-    let s = session_from(came);
-    handed_back(came, s.piece(bytes, bits))
+    handed_back(came, session::Session::from(came).piece(bytes, bits))
 }
 
+#[tactic(auto, unfolding(crate::specs::Border::finished_back))]
 pub fn slipseal_finish(came: Session, room: &mut [u8]) -> Step
     ensures { (result, room.new) ≡ finished_back came (finish_of (inward came) room.old) }
 {
-    let s = session_from(came);
-    handed_back(came, s.finish(room))
+    handed_back(came, session::Session::from(came).finish(room))
 }
 
 pub fn slipseal_finish_check(came: Session) -> Step
     ensures { result ≡ handed_back came (finish_check_of (inward came)) }
 {
-    let s = session_from(came);
-    handed_back(came, s.finish_check())
+    handed_back(came, session::Session::from(came).finish_check())
 }
 
 // ---- a slip
 
-fn told_slip(read: slip::Slip) -> Slip
-    ensures { result ≡ told_slip read }
-{
-    let contents = read.contents;
-    Slip {
-        number: read.number,
-        year: contents.year,
-        month: contents.month,
-        day: contents.day,
-        amount: contents.amount,
-        calls: read.calls,
-        lot_at: contents.lot_at,
-        lot_len: contents.lot_len,
+impl From<Result<slip::Slip, Refusal>> for Slip {
+    ghost from_gives = { λ read out. out ≡ told_slip (reading read) };
+
+    #[tactic(auto, unfolding(crate::specs::Border::told_slip, slip::specs::Slip::reading, slip::specs::Slip::refused_slip))]
+    fn from(read: Result<slip::Slip, Refusal>) -> Slip {
+        match read {
+            Ok(slip::Slip { calls, contents }) => Slip {
+                number: 0,
+                year: contents.date.year,
+                month: contents.date.month,
+                day: contents.date.day,
+                amount: contents.amount,
+                calls,
+                lot_at: contents.lot_at,
+                lot_len: contents.lot_len,
+            },
+            Err(refusal) => Slip {
+                number: refusal.number(),
+                ..Slip::default()
+            },
+        }
+    }
+}
+
+impl From<Result<slip::Printed, Refusal>> for Written {
+    ghost from_gives = { λ written out. out ≡ told_written (writing written) };
+
+    #[tactic(auto, unfolding(slip::specs::Printed::writing, slip::specs::Printed::written_slip, slip::specs::Printed::unwritten_slip))]
+    fn from(written: Result<slip::Printed, Refusal>) -> Written {
+        match written {
+            Ok(slip::Printed { length, calls }) => Written {
+                number: 0,
+                length,
+                calls,
+            },
+            Err(refusal) => Written {
+                number: refusal.number(),
+                ..Written::default()
+            },
+        }
     }
 }
 
 pub fn slipseal_read(agreement: Agreement, keys: &[u8], slip: &[u8]) -> Slip
     ensures { result ≡ told_slip (read_of (agreed_of agreement) keys.now slip.now) }
 {
-    told_slip(slip::read(agreed(agreement), keys, slip))
+    slip::read(agreement.into(), keys, slip).into()
 }
 
 pub fn slipseal_gather(came: slip::Gathered, bytes: &[u8]) -> slip::Gathered
@@ -390,10 +401,10 @@ pub fn slipseal_gather(came: slip::Gathered, bytes: &[u8]) -> slip::Gathered
 pub fn slipseal_read_gathered(agreement: Agreement, keys: &[u8], came: slip::Gathered) -> Slip
     ensures { result ≡ told_slip (read_of (agreed_of agreement) keys.now (held came)) }
 {
-    let bytes = came.bytes;
-    slipseal_read(agreement, keys, slip::held(&bytes, came.count))
+    slipseal_read(agreement, keys, slip::held(&came.bytes, came.count))
 }
 
+#[tactic(auto, unfolding(crate::specs::Border::told_write))]
 pub fn slipseal_write(
     agreement: Agreement,
     keys: &[u8],
@@ -403,8 +414,13 @@ pub fn slipseal_write(
     lot: &[u8],
     amount: usize,
     room: &mut [u8],
-) -> slip::Written
-    ensures { (result, room.new) ≡ write_of (agreed_of agreement) keys.now (said year month day lot.now amount) room.old }
+) -> Written
+    ensures { (result, room.new) ≡ told_write (write_of (agreed_of agreement) keys.now (said year month day lot.now amount) room.old) }
 {
-    slip::write(agreed(agreement), keys, year, month, day, lot, amount, room)
+    let said = slip::Said {
+        date: slip::Date { year, month, day },
+        lot,
+        amount,
+    };
+    slip::write(agreement.into(), keys, said, room).into()
 }

@@ -1,8 +1,7 @@
 -- No second answer satisfies the contract of any function that C calls: each is one equation of structs, and of the lent room.
 -- Assumes nothing.
-use mathlib.Core.Path.{refl}
 use Rattle.bits.specs.Once.{Unique}
-use Rattle.bits.proofs.Same.{same}
+use Rattle.slipseal.proofs.Unique as slipseal
 use Rattle.slipseal_c.proofs.slipseal_make.Kinds as make-k
 use Rattle.slipseal_c.proofs.slipseal_make.Reads as slipseal-make
 use Rattle.slipseal_c.proofs.slipseal_check.Kinds as check-k
@@ -29,37 +28,37 @@ use Rattle.slipseal_c.proofs.slipseal_write.Kinds as write-k
 use Rattle.slipseal_c.proofs.slipseal_write.Reads as slipseal-write
 
 pub make-unique : Unique make-k.ps make-k.r slipseal-make.Asked slipseal-make.Learnt
-make-unique κs a g p x y = let e = same x.ensures y.ensures in (λ i. (e i).0, λ i. (tt, (tt, (tt, (tt, ((e i).1, tt))))))
+make-unique = slipseal.make-unique
 
 pub check-unique : Unique check-k.ps check-k.r slipseal-check.Asked slipseal-check.Learnt
-check-unique κs a g p x y = (same x.ensures y.ensures, refl)
+check-unique = slipseal.check-unique
 
 pub restore-unique : Unique restore-k.ps restore-k.r slipseal-restore.Asked slipseal-restore.Learnt
-restore-unique κs a g p x y = let e = same x.ensures y.ensures in (λ i. (e i).0, λ i. (tt, (tt, ((e i).1, (tt, (tt, (tt, tt)))))))
+restore-unique = slipseal.restore-unique
 
 pub start-unique : Unique start-k.ps start-k.r slipseal-start.Asked slipseal-start.Learnt
-start-unique κs a g p x y = (same x.ensures y.ensures, refl)
+start-unique = slipseal.start-unique
 
 pub start-check-unique : Unique start-check-k.ps start-check-k.r slipseal-start-check.Asked slipseal-start-check.Learnt
-start-check-unique κs a g p x y = (same x.ensures y.ensures, refl)
+start-check-unique = slipseal.start-check-unique
 
 pub piece-unique : Unique piece-k.ps piece-k.r slipseal-piece.Asked slipseal-piece.Learnt
-piece-unique κs a g p x y = (same x.ensures y.ensures, refl)
+piece-unique = slipseal.piece-unique
 
 pub finish-unique : Unique finish-k.ps finish-k.r slipseal-finish.Asked slipseal-finish.Learnt
-finish-unique κs a g p x y = let e = same x.ensures y.ensures in (λ i. (e i).0, λ i. (tt, ((e i).1, tt)))
+finish-unique = slipseal.finish-unique
 
 pub finish-check-unique : Unique finish-check-k.ps finish-check-k.r slipseal-finish-check.Asked slipseal-finish-check.Learnt
-finish-check-unique κs a g p x y = (same x.ensures y.ensures, refl)
+finish-check-unique = slipseal.finish-check-unique
 
 pub read-unique : Unique read-k.ps read-k.r slipseal-read.Asked slipseal-read.Learnt
-read-unique κs a g p x y = (same x.ensures y.ensures, refl)
+read-unique = slipseal.read-unique
 
 pub gather-unique : Unique gather-k.ps gather-k.r slipseal-gather.Asked slipseal-gather.Learnt
-gather-unique κs a g p x y = (same x.ensures y.ensures, refl)
+gather-unique = slipseal.gather-unique
 
 pub read-gathered-unique : Unique read-gathered-k.ps read-gathered-k.r slipseal-read-gathered.Asked slipseal-read-gathered.Learnt
-read-gathered-unique κs a g p x y = (same x.ensures y.ensures, refl)
+read-gathered-unique = slipseal.read-gathered-unique
 
 pub write-unique : Unique write-k.ps write-k.r slipseal-write.Asked slipseal-write.Learnt
-write-unique κs a g p x y = let e = same x.ensures y.ensures in (λ i. (e i).0, λ i. (tt, (tt, (tt, (tt, (tt, (tt, (tt, ((e i).1, tt)))))))))
+write-unique = slipseal.write-unique

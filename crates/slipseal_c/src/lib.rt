@@ -1,5 +1,6 @@
 // The functions for C: each calls the library's function of the same name, under the same clauses. C callers have them as
-// include/slipseal.h declares them, in the archive libslipseal.a that bindings/build makes.
+// include/slipseal.h declares them, in the archive libslipseal.a that bindings/build makes. Names and clauses stand twice, for no crate can
+// stand on a static library.
 #![tactic(auto)]
 
 ghost use Rattle.std.specs.Prelude.{◌≡◌};
@@ -10,9 +11,9 @@ ghost use Rattle.slip.specs.Slip.{read_of};
 ghost use Rattle.slip.specs.Gathering.{held, add_of};
 ghost use Rattle.slip.specs.Printed.{write_of};
 ghost use Rattle.writing.specs.Writing.{said};
-ghost use Rattle.slipseal.specs.Border.{agreed_of, told_of, told_make, told_restored, told_slip, inward, handed_out, handed_back, finished_back};
+ghost use Rattle.slipseal.specs.Border.{agreed_of, told_of, told_make, told_restored, told_slip, told_write, inward, handed_out, handed_back, finished_back};
 
-use slipseal::{Agreement, Answer, Session, Slip, Step};
+use slipseal::{Agreement, Answer, Session, Slip, Step, Written};
 
 #[unsafe(no_mangle)]
 pub extern "C" fn slipseal_make(
@@ -129,8 +130,8 @@ pub extern "C" fn slipseal_write(
     lot: &[u8],
     amount: usize,
     room: &mut [u8],
-) -> slip::Written
-    ensures { (result, room.new) ≡ write_of (agreed_of agreement) keys.now (said year month day lot.now amount) room.old }
+) -> Written
+    ensures { (result, room.new) ≡ told_write (write_of (agreed_of agreement) keys.now (said year month day lot.now amount) room.old) }
 {
     slipseal::slipseal_write(agreement, keys, year, month, day, lot, amount, room)
 }

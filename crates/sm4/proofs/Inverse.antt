@@ -11,9 +11,8 @@ use Rattle.bits.specs.Str.{Bits, bytes_bits, words, xor_b}
 use Rattle.bits.proofs.Packed.{length-bytes_bits}
 use Rattle.bits.proofs.Strings.{xor_b-comm, xor_b-assoc, xor_b-twice, length-xor_b}
 use Rattle.sm4.specs.Cipher.{Quad, quad, flat, four, τ, T, F, round, rounds, R, enc, dec, round_keys, encrypted, decrypted}
-use Rattle.sm4.specs.Table.{rotations}
+use Rattle.sm4.specs.Mixing.{mixes-T}
 use Rattle.sm4.proofs.Laws.{Long, length-Sbox, quad-flat}
-use Rattle.sm4.proofs.Rotations.{linear}
 use Rattle.sm4.proofs.Walk.{rounds-snoc}
 
 -- ---- T gives 32 bits
@@ -23,8 +22,8 @@ unfolding τ
 length-τ w = simp (length-append, length-Sbox)
 
 length-T : (w : Bits) → length (T w) ≡ 32
-unfolding T rotations
-length-T w = (linear 0).long (τ w) ∙ length-τ w
+unfolding T
+length-T w = mixes-T.linear.long (τ w) ∙ length-τ w
 
 -- ---- rounds under any t that gives 32 bits
 
@@ -97,8 +96,8 @@ flat-quad b h =
     back n = ap (λ (v : Bits). take 32 (drop n b) ++ v) (sym (drop-drop 32 n b)) ∙ take-append-drop 32 (drop n b)
 
 -- words that are those of sixteen bytes
-pub flat-loaded : (x b : List ℕ) → length b ≡ 16 → four (words x) ≡ quad (bytes_bits b) → flat (four (words x)) ≡ bytes_bits b
-flat-loaded x b h e = ap flat e ∙ flat-quad (bytes_bits b) (omega (arith, length-bytes_bits b))
+pub flat_loaded : (x b : List ℕ) → length b ≡ 16 → four (words x) ≡ quad (bytes_bits b) → flat (four (words x)) ≡ bytes_bits b
+flat_loaded x b h e = ap flat e ∙ flat-quad (bytes_bits b) (omega (arith, length-bytes_bits b))
 
 pub length-flat : (X : Quad) → Long X → length (flat X) ≡ 128
 unfolding flat

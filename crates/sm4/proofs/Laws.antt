@@ -2,16 +2,18 @@
 -- through the byte table one by one, and two blocks by xor word by word.
 -- Assumes nothing.
 use mathlib.Core.Path.{◌≡◌, refl, sym, ap, ap₂, ◌∙◌, subst}
-use mathlib.Core.List.{List, [], ◌∷◌, ◌++◌, flat_map}
-use Prim.Native.Nat.{ℕ, zero, suc, ◌<◌}
+use mathlib.Core.List.{List, [], ◌∷◌, ◌++◌, flat_map, reverse}
+use mathlib.Mathlib.Data.List.Basic.{map-reverse_aux}
+use Prim.Native.Nat.{ℕ, suc, ◌+◌, ◌*◌, ◌<◌}
 use native.Mathlib.Omega.{arith}
 use lib.Bits.{bit_xor}
 use lib.ListN.{length, take, drop, get_or}
-use lib.Seq.{take_at, drop_at, take_all, drop-drop}
+use lib.Seq.{take_at, drop_at, take_all, drop-drop, drop-cons}
+use Rattle.std.proofs.lemmas.List.{get_or-map}
 use Rattle.bits.specs.Str.{Bits, bits_n, bytes_bits, words, xor_b}
 use Rattle.bits.proofs.Numbers.{length-bits_n}
 use Rattle.bits.proofs.Strings.{take-xor_b, drop-xor_b, bits_n-xor}
-use Rattle.bits.proofs.Packed.{bytes_bits-append, spread, spread-all}
+use Rattle.bits.proofs.Packed.{bytes_bits-append, bytes_bits-take, bytes_bits-drop, spread, spread-all}
 use Rattle.sm4.specs.Cipher.{Quad, quad, flat, four, Sbox, τ}
 
 -- ---- four words of 32 bits, and a block
@@ -51,9 +53,7 @@ quad-flat X h = λ i. record { x0 = e0 i; x1 = e1 i; x2 = e2 i; x3 = e3 i }
 
 pub words-at : (xs : List ℕ) (i : ℕ) → i < length xs → get_or (words xs) i [] ≡ bits_n 32 (get_or xs i 0)
 unfolding words
-words-at [] i h = absurd (omega arith)
-words-at (x ∷ xs) zero h = refl
-words-at (x ∷ xs) (suc i) h = words-at xs i (omega arith)
+words-at xs i h = get_or-map (bits_n 32) xs i 0 [] h
 
 module _ (xs : List ℕ) (h : length xs ≡ 4) where
   pub four-words : four (words xs)
@@ -81,8 +81,11 @@ packed a b c d X ha hb hc hd = simp bytes_bits-append (cc)
 pub stored : (x a b c d : List ℕ) → length x ≡ 4 → length a ≡ 4 → length b ≡ 4 → length c ≡ 4 → length d ≡ 4
     → bytes_bits a ≡ bits_n 32 (get_or x 0 0) → bytes_bits b ≡ bits_n 32 (get_or x 1 0)
     → bytes_bits c ≡ bits_n 32 (get_or x 2 0) → bytes_bits d ≡ bits_n 32 (get_or x 3 0)
-    → bytes_bits (spread 4 0 a ++ (spread 4 0 b ++ (spread 4 0 c ++ spread 4 0 d))) ≡ flat (four (words x))
-unfolding four
+    → bytes_bits
+    (get_or a 0 0 ∷ get_or a 1 0 ∷ get_or a 2 0 ∷ get_or a 3 0 ∷ get_or b 0 0 ∷ get_or b 1 0 ∷ get_or b 2 0 ∷ get_or b 3 0
+    ∷ get_or c 0 0 ∷ get_or c 1 0 ∷ get_or c 2 0 ∷ get_or c 3 0 ∷ get_or d 0 0 ∷ get_or d 1 0 ∷ get_or d 2 0 ∷ get_or d 3 0 ∷ [])
+    ≡ flat (four (words x))
+unfolding four spread
 stored x a b c d hx ha hb hc hd ea eb ec ed =
     packed (spread 4 0 a) (spread 4 0 b) (spread 4 0 c) (spread 4 0 d) (four (words x))
     (word 0 (omega arith) a ha ea) (word 1 (omega arith) b hb eb) (word 2 (omega arith) c hc ec) (word 3 (omega arith) d hd ed)
@@ -113,7 +116,7 @@ quad-xor_b u v = λ i. record { x0 = take-xor_b 32 u v i; x1 = part 32 i; x2 = p
     part : (n : ℕ) → take 32 (drop n (xor_b u v)) ≡ xor_b (take 32 (drop n u)) (take 32 (drop n v))
     part n = ap (take 32) (drop-xor_b n u v) ∙ take-xor_b 32 (drop n u) (drop n v)
 
-pub four-xor : (x y : List ℕ) → length x ≡ 4 → length y ≡ 4
+pub four_xor : (x y : List ℕ) → length x ≡ 4 → length y ≡ 4
     → four
     (words
     (bit_xor (get_or x 0 0) (get_or y 0 0)
@@ -123,7 +126,7 @@ pub four-xor : (x y : List ℕ) → length x ≡ 4 → length y ≡ 4
     ∷ []))
     ≡ quad (xor_b (flat (four (words x))) (flat (four (words y))))
 unfolding four words
-four-xor x y hx hy =
+four_xor x y hx hy =
     (λ i. record { x0 = word 0 i; x1 = word 1 i; x2 = word 2 i; x3 = word 3 i })
     ∙ sym (ap₂ both (whole x hx) (whole y hy))
     ∙ sym (quad-xor_b (flat (four (words x))) (flat (four (words y))))
@@ -134,3 +137,27 @@ four-xor x y hx hy =
     whole : (z : List ℕ) (h : length z ≡ 4) → quad (flat (four (words z)))
         ≡ record { x0 = bits_n 32 (get_or z 0 0); x1 = bits_n 32 (get_or z 1 0); x2 = bits_n 32 (get_or z 2 0); x3 = bits_n 32 (get_or z 3 0) }
     whole z h = quad-flat (four (words z)) (long-words z h) ∙ four-words z h
+
+-- ---- four bytes of a part
+
+pub four_bytes : (xs : List ℕ) (k : ℕ) → k + 3 < length xs
+    → bytes_bits (get_or xs k 0 ∷ get_or xs (k + 1) 0 ∷ get_or xs (k + 2) 0 ∷ get_or xs (k + 3) 0 ∷ []) ≡ take 32 (drop (8 * k) (bytes_bits xs))
+four_bytes xs k h =
+    sym (ap (take 32) (sym (bytes_bits-drop k xs)) ∙ sym (bytes_bits-take 4 (drop k xs)) ∙ ap (λ (l : List ℕ). bytes_bits (take 4 l)) four)
+  where
+    next : (n m : ℕ) → n < length xs → m ≡ suc n → drop n xs ≡ get_or xs n 0 ∷ drop m xs
+    next n m h e = drop-cons xs n 0 h ∙ ap (λ (p : ℕ). get_or xs n 0 ∷ drop p xs) (sym e)
+
+    four : drop k xs ≡ get_or xs k 0 ∷ get_or xs (k + 1) 0 ∷ get_or xs (k + 2) 0 ∷ get_or xs (k + 3) 0 ∷ drop (k + 4) xs
+    four =
+        next k (k + 1) (omega arith) (omega arith)
+        ∙ ap (λ (l : List ℕ). get_or xs k 0 ∷ l)
+        (next (k + 1) (k + 2) (omega arith) (omega arith)
+        ∙ ap (λ (l : List ℕ). get_or xs (k + 1) 0 ∷ l)
+        (next (k + 2) (k + 3) (omega arith) (omega arith) ∙ ap (λ (l : List ℕ). get_or xs (k + 2) 0 ∷ l) (next (k + 3) (k + 4) (omega arith) (omega arith))))
+
+-- ---- words backwards
+
+pub words_reverse : (xs : List ℕ) → words (reverse xs) ≡ reverse (words xs)
+unfolding words
+words_reverse xs = map-reverse_aux (bits_n 32) xs []

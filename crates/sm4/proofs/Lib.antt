@@ -1,6 +1,5 @@
 pub mod Listed
 pub mod Laws
-pub mod Rotations
 pub mod Lookup
 pub mod Parts
 pub mod Walk

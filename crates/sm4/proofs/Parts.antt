@@ -24,9 +24,9 @@ abbrev pub first : List ℕ → ℕ → Split
 first x k = record { x0 = get_or x 0 0; x1 = get_or x 1 0; x2 = get_or x 2 0; m = get_or x 3 0; n = 0; q = bit_xor (bit_xor (get_or x 1 0) (get_or x 2 0)) k }
 
 module _ (x : List ℕ) (k : ℕ) where
-  pub first-joined : length x ≡ 4 → joined (first x k) ≡ four (words x)
+  pub first_joined : length x ≡ 4 → joined (first x k) ≡ four (words x)
   unfolding joined
-  first-joined h =
+  first_joined h =
       (λ i. record { x0 = bits_n 32 (get_or x 0 0); x1 = bits_n 32 (get_or x 1 0); x2 = bits_n 32 (get_or x 2 0); x3 = whole i })
       ∙ sym (four-words x h)
     where
@@ -34,9 +34,9 @@ module _ (x : List ℕ) (k : ℕ) where
       whole =
           ap (xor_b (bits_n 32 (get_or x 3 0))) (bits_n-zero 32 ∙ ap zeros (sym (length-bits_n 32 (get_or x 3 0)))) ∙ xor_b-zeros (bits_n 32 (get_or x 3 0))
 
-  pub first-ready : Ready (first x k) (bits_n 32 k)
+  pub first_ready : Ready (first x k) (bits_n 32 k)
   unfolding Ready
-  first-ready = three (get_or x 1 0) (get_or x 2 0) k
+  first_ready = three (get_or x 1 0) (get_or x 2 0) k
 
 -- the newest word is the one that the last round made
 pub newest : (s : Split) → bits_n 32 (bit_xor s.m s.n) ≡ (joined s).x3

@@ -1,14 +1,13 @@
--- The rounds one by one, as all three loops make them, under 32 keys, which are round keys or the constants CK: after i rounds the
--- state is that of the definition, and it is ready for the next key. After the last round that is the first key again, which nothing
--- uses.
+-- The rounds one by one, as both loops make them, under 32 keys, which are round keys or the constants CK: after i rounds the state is
+-- that of the definition, and it is ready for the next key, where there is one.
 -- Assumes nothing.
 use mathlib.Core.Path.{◌≡◌, refl, sym, ap, ap₂, subst, ◌∙◌}
 use mathlib.Core.List.{List, [], ◌∷◌, ◌++◌}
 use Prim.Native.Nat.{ℕ, ◌+◌, ◌≤◌, ◌<◌, ◌%◌}
-use native.Mathlib.Numerals.{add-one}
 use native.Mathlib.Omega.{arith}
 use lib.ListN.{length, take, get_or, set, length-map}
-use lib.Seq.{take_all, take-suc}
+use lib.Seq.{take_all}
+use Rattle.std.proofs.lemmas.List.{take_more}
 use Rattle.bits.specs.Str.{Bits, bits_n, words}
 use Rattle.bits.proofs.Packed.{words-set}
 use Rattle.sm4.specs.Constants.{CK, CKs}
@@ -30,30 +29,25 @@ unfolding rounds made
 made-snoc t X [] k = refl
 made-snoc t X (j ∷ ks) k = ap (λ (l : List Bits). F t X j ∷ l) (made-snoc t (round t X j) ks k)
 
-first-keys : (ks : List Bits) (i : ℕ) → i < length ks → take (i + 1) ks ≡ take i ks ++ (get_or ks i [] ∷ [])
-first-keys ks i h = ap (λ (n : ℕ). take n ks) (add-one i) ∙ take-suc ks i [] h
-
 -- ---- the walk
 
 pub record Walked (t : Bits → Bits) (ks : List Bits) (s₀ s : Split) (i : ℕ) : Type 0 where
   pub all : length ks ≡ 32
   pub most : i ≤ 32
   pub state : joined s ≡ rounds t (joined s₀) (take i ks)
-  pub ready : Ready s (get_or ks (i % 32) [])
+  pub ready : i < 32 → Ready s (get_or ks i [])
 
 module _ (t : Bits → Bits) (ks : List Bits) where
   pub walk_start : (s : Split) (k : Bits) → length ks ≡ 32 → k ≡ get_or ks 0 [] → Ready s k → Walked t ks s s 0
   unfolding rounds
-  walk_start s k all e h = record { all = all; most = omega arith; state = refl; ready = subst (Ready s) e h }
+  walk_start s k all e h = record { all = all; most = omega arith; state = refl; ready = λ _. subst (Ready s) e h }
 
-  module _ (s₀ s r : Split) (i : ℕ) (w : Walked t ks s₀ s i) (below : i < 32) (k : Bits) (e : k ≡ get_or ks ((i + 1) % 32) []) (step : Stepped t s r k) where
+  module _ (s₀ s r : Split) (i : ℕ) (w : Walked t ks s₀ s i) (below : i < 32) (k : Bits) (e : i + 1 < 32 → k ≡ get_or ks (i + 1) []) (step : Stepped t s r k) where
     new : joined r ≡ round t (rounds t (joined s₀) (take i ks)) (get_or ks i [])
-    new =
-        let at : i % 32 ≡ i = omega arith in
-        step.goes _ (subst (λ (n : ℕ). Ready s (get_or ks n [])) at w.ready) ∙ ap (λ X. round t X (get_or ks i [])) w.state
+    new = step.goes _ (w.ready below) ∙ ap (λ X. round t X (get_or ks i [])) w.state
 
     more : take (i + 1) ks ≡ take i ks ++ (get_or ks i [] ∷ [])
-    more = first-keys ks i (omega (arith, w.all))
+    more = take_more ks i [] (omega (arith, w.all))
 
     pub walk-on : Walked t ks s₀ r (i + 1)
     walk-on =
@@ -61,7 +55,7 @@ module _ (t : Bits → Bits) (ks : List Bits) where
           all = w.all;
           most = omega arith;
           state = new ∙ sym (rounds-snoc t (joined s₀) (take i ks) (get_or ks i [])) ∙ ap (rounds t (joined s₀)) (sym more);
-          ready = subst (Ready r) e step.ready;
+          ready = λ h. subst (Ready r) (e h) step.ready;
         }
 
     -- where the words made so far are written, the newest word is the next
@@ -89,7 +83,7 @@ module _ (t : Bits → Bits) (rk : List ℕ) (all : length rk ≡ 32) where
 
   pub keys_on : (s₀ s r : Split) (i : ℕ) → Walked t (words rk) s₀ s i → i < 32 → Stepped t s r (bits_n 32 (get_or rk ((i + 1) % 32) 0))
       → Walked t (words rk) s₀ r (i + 1)
-  keys_on s₀ s r i w h = walk-on t (words rk) s₀ s r i w h _ (key-at ((i + 1) % 32) (omega arith))
+  keys_on s₀ s r i w h = walk-on t (words rk) s₀ s r i w h _ (λ h. ap (λ (n : ℕ). bits_n 32 (get_or rk n 0)) (omega arith) ∙ key-at (i + 1) h)
 
 -- ---- under the constants
 

@@ -3,24 +3,18 @@
 -- Assumes nothing.
 use Rattle.std.specs.Prelude.{List, [], ◌∷◌, ◌++◌, ℕ, zero, suc, ◌-◌, ◌*◌}
 use Rattle.bits.specs.Str.{Bits, bits_n, num_of, zeros}
-use Rattle.sm4.specs.Cipher.{Sbox, L, L', T, T'}
-
--- T is number 0, T' any other; and L and L', which end them
-unfoldable pub mixing : ℕ → Bits → Bits
-mixing zero = T
-mixing (suc n) = T'
-
-unfoldable pub rotations : ℕ → Bits → Bits
-rotations zero = L
-rotations (suc n) = L'
+use Rattle.sm4.specs.Cipher.{Sbox, L, L'}
 
 -- a word whose byte j, the highest counted as 0, is b, and whose other bytes are zero
 unfoldable pub placed : ℕ → Bits → Bits
 placed j b = zeros (8 * j) ++ (b ++ zeros (24 - 8 * j))
 
--- what the byte x in place j of a word adds; l is L or L'
+-- what the byte x in place j of a word adds, as bits and as a number; l is L or L'
+unfoldable pub share : (Bits → Bits) → ℕ → ℕ → Bits
+share l j x = l (placed j (Sbox (bits_n 8 x)))
+
 unfoldable pub entry : (Bits → Bits) → ℕ → ℕ → ℕ
-entry l j x = num_of (l (placed j (Sbox (bits_n 8 x))))
+entry l j x = num_of (share l j x)
 
 -- n of these, from the byte x on
 unfoldable pub entries : (Bits → Bits) → ℕ → ℕ → ℕ → List ℕ

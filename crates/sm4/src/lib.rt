@@ -3,18 +3,17 @@
 // once. Long messages take a wide table besides, which spares them the turning of what is looked up; there it is worth its copying.
 #![tactic(auto)]
 
-ghost use Rattle.std.specs.Prelude.{◌≡◌, reverse, ◌*◌, ◌<◌, ◌≤◌, length, take, drop};
-ghost use Rattle.bits.specs.Str.{bits_n, bytes_bits, words, xor_b};
+ghost use Rattle.std.specs.Prelude.{◌≡◌, ℕ, List, [], ◌∷◌, reverse, ◌*◌, ◌<◌, ◌≤◌, length, take, drop};
+ghost use Rattle.bits.specs.Str.{Bits, bits_n, bytes_bits, words, xor_b};
 ghost use Rattle.sm4.specs.Constants.{fk, ck, CK};
-ghost use Rattle.sm4.specs.Cipher.{quad, flat, four, Sbox, L, T, rounds, R, enc, dec, round_keys};
-ghost use Rattle.sm4.specs.Table.{rotations, mixing, placed, table, wide};
+ghost use Rattle.sm4.specs.Cipher.{quad, flat, four, L, L', T, T', rounds, R, enc, dec, round_keys};
+ghost use Rattle.sm4.specs.Table.{share, table, wide};
 ghost use Rattle.sm4.specs.Split.{joined, Ready, Stepped};
+ghost use Rattle.sm4.specs.Mixing.{Mixes, mixes-T, mixes-T'};
 
 mod words;
 
-pub type Table = [u32; 512];
-
-pub type Wide = [u32; 768];
+pub use words::{Table, Wide};
 
 // ---- tables
 
@@ -22,31 +21,84 @@ pub type Wide = [u32; 768];
 pub fn table() -> Table
     ensures { result ≡ table }
 {
-    words::TABLE
+    Table(words::TABLE)
 }
 
 // The table that long messages take besides, to be lent.
 pub fn wide() -> Wide
     ensures { result ≡ wide }
 {
-    words::WIDE
+    Wide(words::WIDE)
 }
 
-// What a byte in place j of a word, the highest counted as 0, adds to T (l is 0) or T' (l is 1) of the word: what it adds in the
-// first place, turned.
-fn added(t: &Table, l: usize, j: u32, x: u8) -> u32
-    requires { (t.now ≡ table) × (l < 2) × (j < 4) }
-    ensures { bits_n 32 result ≡ rotations l (placed j (Sbox (bits_n 8 x))) }
-{
-    bits::rotl32(t[256 * l + x as usize], 32 - 8 * j)
+// ---- the mixing functions
+
+// T or T' of a word, by tables: the xor of what the word's four bytes add, each in its place.
+trait Mixing {
+    // L or L', and T or T', which it ends
+    ghost last: { Bits → Bits };
+
+    ghost mixing: { Bits → Bits };
+
+    // What the byte x adds in place j, the highest counted as 0.
+    fn added(&self, j: usize, x: u8) -> u32
+        requires { j < 4 }
+        ensures { bits_n 32 result ≡ share last j x };
+
+    ghost mixes: { Mixes last mixing };
 }
 
-// The same for T, in the second place or later, with nothing to turn.
-fn wide_added(w: &Wide, j: usize, x: u8) -> u32
-    requires { (w.now ≡ wide) × (0 < j) × (j < 4) }
-    ensures { bits_n 32 result ≡ L (placed j (Sbox (bits_n 8 x))) }
-{
-    w[256 * (j - 1) + x as usize]
+// T by the table alone: what a byte adds in the first place, turned.
+#[tactic(auto, using(crate::proofs::Lookup::lookups))]
+impl Mixing for Table {
+    ghost last = { L };
+
+    ghost mixing = { T };
+
+    fn added(&self, j: usize, x: u8) -> u32 {
+        bits::rotl32(self.0[x as usize], 32 - 8 * j as u32)
+    }
+
+    ghost mixes = { mixes-T };
+}
+
+// T by both tables, with nothing to turn.
+#[derive(Drop)]
+struct Both<'a>(&'a Table, &'a Wide);
+
+#[tactic(auto, using(crate::proofs::Lookup::lookups))]
+impl Mixing for Both<'_> {
+    ghost last = { L };
+
+    ghost mixing = { T };
+
+    fn added(&self, j: usize, x: u8) -> u32 {
+        let Both(t, w) = self;
+        match j {
+            0 => t.added(0, x),
+            _ => w.0[256 * (j - 1) + x as usize],
+        }
+    }
+
+    ghost mixes = { mixes-T };
+}
+
+// T', for the round keys, by the second half of the table: turned too.
+#[derive(Drop)]
+struct ForKeys<'a>(&'a Table);
+
+#[tactic(auto, using(crate::proofs::Lookup::lookups))]
+impl Mixing for ForKeys<'_> {
+    ghost last = { L' };
+
+    ghost mixing = { T' };
+
+    fn added(&self, j: usize, x: u8) -> u32 {
+        let ForKeys(t) = self;
+        bits::rotl32(t.0[256 + x as usize], 32 - 8 * j as u32)
+    }
+
+    ghost mixes = { mixes-T' };
 }
 
 // ---- the state between two rounds
@@ -64,64 +116,60 @@ struct Split {
     q: u32,
 }
 
-// Four words as a state; k is the key of the first round.
-fn parted(x: [u32; 4], k: u32) -> Split
-    ensures { (joined result ≡ four (words x)) × Ready result (bits_n 32 k) }
-{
-    Split {
-        x0: x[0],
-        x1: x[1],
-        x2: x[2],
-        m: x[3],
-        n: 0,
-        q: x[1] ^ x[2] ^ k,
+impl Split {
+    // Four words as a state; k is the key of the first round.
+    #[tactic(auto, using(crate::proofs::Parts::first_joined, crate::proofs::Parts::first_ready))]
+    fn new(x: [u32; 4], k: u32) -> Split
+        ensures { (joined result ≡ four (words x)) × Ready result (bits_n 32 k) }
+    {
+        let [x0, x1, x2, m] = x;
+        Split {
+            x0,
+            x1,
+            x2,
+            m,
+            n: 0,
+            q: x1 ^ x2 ^ k,
+        }
     }
-}
 
-// One round more, of the cipher (l is 0) or of the key schedule (l is 1); k is the key of the round after it.
-fn step(t: &Table, l: usize, s: Split, k: u32) -> Split
-    requires { (t.now ≡ table) × (l < 2) }
-    ensures { Stepped (mixing l) s result (bits_n 32 k) }
-{
-    let x3 = s.m ^ s.n;
-    let b = bits::bytes((s.n ^ s.q) ^ s.m);
-    Split {
-        x0: s.x1,
-        x1: s.x2,
-        x2: x3,
-        m: s.x0 ^ added(t, l, 0, b[0]) ^ added(t, l, 1, b[1]),
-        n: added(t, l, 2, b[2]) ^ added(t, l, 3, b[3]),
-        q: s.x2 ^ x3 ^ k,
+    // One round more, of the cipher or of the key schedule; k is the key of the round after it.
+    fn step<M: Mixing>(self, by: &M, k: u32) -> Split
+        ensures { Stepped M.mixing self result (bits_n 32 k) }
+    {
+        let x3 = self.m ^ self.n;
+        let b = bits::bytes((self.n ^ self.q) ^ self.m);
+        Split {
+            x0: self.x1,
+            x1: self.x2,
+            x2: x3,
+            m: self.x0 ^ by.added(0, b[0]) ^ by.added(1, b[1]),
+            n: by.added(2, b[2]) ^ by.added(3, b[3]),
+            q: self.x2 ^ x3 ^ k,
+        }
     }
-}
 
-// One round of the cipher more, by both tables.
-fn wide_step(t: &Table, w: &Wide, s: Split, k: u32) -> Split
-    requires { (t.now ≡ table) × (w.now ≡ wide) }
-    ensures { Stepped T s result (bits_n 32 k) }
-{
-    let x3 = s.m ^ s.n;
-    let b = bits::bytes((s.n ^ s.q) ^ s.m);
-    Split {
-        x0: s.x1,
-        x1: s.x2,
-        x2: x3,
-        m: s.x0 ^ added(t, 0, 0, b[0]) ^ wide_added(w, 1, b[1]),
-        n: wide_added(w, 2, b[2]) ^ wide_added(w, 3, b[3]),
-        q: s.x2 ^ x3 ^ k,
+    // The newest word.
+    #[tactic(auto, using(crate::proofs::Parts::newest))]
+    fn newest(self) -> u32
+        ensures { bits_n 32 result ≡ (joined self).x3 }
+    {
+        self.m ^ self.n
     }
-}
 
-// The four words of a state, the newest first.
-fn reversed(s: Split) -> [u32; 4]
-    ensures { four (words result) ≡ R (joined s) }
-{
-    [s.m ^ s.n, s.x2, s.x1, s.x0]
+    // The four words, the newest first.
+    #[tactic(auto, using(crate::proofs::Parts::ended))]
+    fn reversed(self) -> [u32; 4]
+        ensures { four (words result) ≡ R (joined self) }
+    {
+        [self.m ^ self.n, self.x2, self.x1, self.x0]
+    }
 }
 
 // ---- blocks
 
 // Four bytes of a part, from place k on, as a word.
+#[tactic(auto, using(crate::proofs::Laws::four_bytes))]
 fn word_at(s: &[u8], k: usize) -> u32
     requires { (length s.now ≡ 16) × (k ≤ 12) }
     ensures { bits_n 32 result ≡ take 32 (drop (8 * k) (bytes_bits s.now)) }
@@ -130,6 +178,7 @@ fn word_at(s: &[u8], k: usize) -> u32
 }
 
 // The sixteen bytes of a part as four words, the first byte highest.
+#[tactic(auto, unfolding(crate::specs::Cipher::quad, crate::specs::Cipher::four, bits::specs::Str::words))]
 pub fn load(s: &[u8]) -> [u32; 4]
     requires { length s.now ≡ 16 }
     ensures { four (words result) ≡ quad (bytes_bits s.now) }
@@ -138,6 +187,7 @@ pub fn load(s: &[u8]) -> [u32; 4]
 }
 
 // Four words as sixteen bytes.
+#[tactic(auto, using(crate::proofs::Laws::stored))]
 pub fn store(x: [u32; 4]) -> [u8; 16]
     ensures { bytes_bits result ≡ flat (four (words x)) }
 {
@@ -152,75 +202,54 @@ pub fn store(x: [u32; 4]) -> [u8; 16]
 }
 
 // Two blocks in words, by xor.
+#[tactic(auto, using(crate::proofs::Laws::four_xor))]
 fn xor(x: [u32; 4], y: [u32; 4]) -> [u32; 4]
     ensures { four (words result) ≡ quad (xor_b (flat (four (words x))) (flat (four (words y)))) }
 {
     [x[0] ^ y[0], x[1] ^ y[1], x[2] ^ y[2], x[3] ^ y[3]]
 }
 
-// All rounds; the last word comes first. After the last round the state is ready for the first key again, which nothing uses.
-fn rounds(t: &Table, rk: [u32; 32], start: [u32; 4]) -> [u32; 4]
-    requires { t.now ≡ table }
-    ensures { four (words result) ≡ R (rounds T (four (words start)) (words rk)) }
+// All rounds; the last word comes first. After the last round the state is ready for the first key again, which nothing uses: an index
+// for it, since `for k in &rk[1..]` with the last step after the loop made a long message 3 % slower.
+fn rounds<M: Mixing>(by: &M, rk: &[u32; 32], start: [u32; 4]) -> [u32; 4]
+    ensures { four (words result) ≡ R (rounds M.mixing (four (words start)) (words rk.now)) }
 {
-    let mut s = parted(start, rk[0]);
-    let mut turn: usize = 0;
-    while turn < 32 {
-        let next = step(t, 0, s, rk[(turn + 1) % 32]);
-        s = next;
-        turn += 1;
+    let mut s = Split::new(start, rk[0]);
+    for turn in 0..32 {
+        s = s.step(by, rk[(turn + 1) % 32]);
     }
-    reversed(s)
-}
-
-// The same by both tables.
-fn wide_rounds(t: &Table, w: &Wide, rk: [u32; 32], start: [u32; 4]) -> [u32; 4]
-    requires { (t.now ≡ table) × (w.now ≡ wide) }
-    ensures { four (words result) ≡ R (rounds T (four (words start)) (words rk)) }
-{
-    let mut s = parted(start, rk[0]);
-    let mut i: usize = 0;
-    while i < 32 {
-        let next = wide_step(t, w, s, rk[(i + 1) % 32]);
-        s = next;
-        i += 1;
-    }
-    reversed(s)
+    s.reversed()
 }
 
 // One block enciphered.
+#[tactic(auto, unfolding(crate::specs::Cipher::enc))]
 pub fn encrypt(t: &Table, rk: [u32; 32], block: [u8; 16]) -> [u8; 16]
-    requires { t.now ≡ table }
     ensures { bytes_bits result ≡ enc (words rk) (bytes_bits block) }
 {
-    store(rounds(t, rk, load(&block)))
+    store(rounds(t, &rk, load(&block)))
 }
 
 // The next value of a chain: a block, which is a part of a lent message, goes into the words of the value by xor and is enciphered.
 // Between the blocks of a long message nothing is put back into bytes.
+#[tactic(auto, using(crate::proofs::Inverse::flat_loaded), unfolding(crate::specs::Cipher::enc))]
 pub fn absorb(t: &Table, w: &Wide, rk: [u32; 32], h: [u32; 4], s: &[u8]) -> [u32; 4]
-    requires { (t.now ≡ table) × (w.now ≡ wide) × (length s.now ≡ 16) }
+    requires { length s.now ≡ 16 }
     ensures { flat (four (words result)) ≡ enc (words rk) (xor_b (bytes_bits s.now) (flat (four (words h)))) }
 {
-    wide_rounds(t, w, rk, xor(load(s), h))
+    rounds(&Both(t, w), &rk, xor(load(s), h))
 }
 
 // Round keys in the order that deciphers.
-pub fn backwards(rk: [u32; 32]) -> [u32; 32]
+pub fn backwards(mut rk: [u32; 32]) -> [u32; 32]
     ensures { result ≡ reverse rk }
 {
-    let mut r = [0u32; 32];
-    let mut i: usize = 0;
-    while i < 32 {
-        r[i] = rk[31 - i];
-        i += 1;
-    }
-    r
+    rk.reverse();
+    rk
 }
 
 // One block deciphered.
+#[tactic(auto, using(crate::proofs::Laws::words_reverse), unfolding(crate::specs::Cipher::dec))]
 pub fn decrypt(t: &Table, rk: [u32; 32], block: [u8; 16]) -> [u8; 16]
-    requires { t.now ≡ table }
     ensures { bytes_bits result ≡ dec (words rk) (bytes_bits block) }
 {
     encrypt(t, backwards(rk), block)
@@ -229,16 +258,18 @@ pub fn decrypt(t: &Table, rk: [u32; 32], block: [u8; 16]) -> [u8; 16]
 // ---- keys
 
 // Byte j of the constant CKi, the highest counted as 0.
+#[tactic(auto, unfolding(crate::specs::Constants::ck))]
 fn constant_byte(i: usize, j: usize) -> u8
-    requires { (i < 32) × (j < 4) }
+    requires { (i ≤ 32) × (j < 4) }
     ensures { result ≡ ck i j }
 {
     (7 * (4 * i + j) % 256) as u8
 }
 
 // The constant CKi of round i.
+#[tactic(auto, unfolding(crate::specs::Constants::CK))]
 fn constant(i: usize) -> u32
-    requires { i < 32 }
+    requires { i ≤ 32 }
     ensures { bits_n 32 result ≡ CK i }
 {
     bits::word(
@@ -253,6 +284,7 @@ fn constant(i: usize) -> u32
 const FK: [u32; 4] = [0xa3b1bac6, 0x56aa3350, 0x677d9197, 0xb27022dc];
 
 // MK xor FK.
+#[tactic(auto, using(crate::proofs::Inverse::flat_loaded), unfolding(crate::specs::Constants::fk))]
 fn key_start(key: [u8; 16]) -> [u32; 4]
     ensures { four (words result) ≡ quad (xor_b (bytes_bits key) (flat (four (words fk)))) }
 {
@@ -261,17 +293,13 @@ fn key_start(key: [u8; 16]) -> [u32; 4]
 
 // The round keys of a key.
 pub fn schedule(t: &Table, key: [u8; 16]) -> [u32; 32]
-    requires { t.now ≡ table }
     ensures { words result ≡ round_keys (bytes_bits key) }
 {
-    let mut s = parted(key_start(key), constant(0));
+    let mut s = Split::new(key_start(key), constant(0));
     let mut r = [0u32; 32];
-    let mut i: usize = 0;
-    while i < 32 {
-        let next = step(t, 1, s, constant((i + 1) % 32));
-        s = next;
-        r[i] = s.m ^ s.n;
-        i += 1;
+    for (i, word) in r.iter_mut().enumerate() {
+        s = s.step(&ForKeys(t), constant(i + 1));
+        *word = s.newest();
     }
     r
 }

@@ -1,8 +1,40 @@
-// Tables of words. An entry joins what the byte table gives for a byte with the rotations that follow. specs/Table.antt has the rule,
-// and every entry is shown equal to it.
+// Tables of words. An entry joins what the byte table gives for a byte with the rotations that follow. specs/Table.antt has the rule;
+// where a table is made, every entry is shown equal to it, so that whoever is lent a table knows what stands in it.
+
+use std::marker::Model;
 
 // Two tables, one after the other: entry x of the first is L, and of the second L', of the word whose highest byte is the byte
 // table's entry x, and whose other bytes are zero.
+#[derive(Drop)]
+pub struct Table(pub [u32; 512]);
+
+impl Model for Table {
+    ghost use Rattle.std.specs.Prelude.{◌≡◌, ℕ, List};
+    ghost use Rattle.sm4.specs.Table.{table};
+
+    ghost Value = { List ℕ };
+
+    ghost view = { λ t. t.0 };
+
+    ghost invariant = { λ t. t.0 ≡ table };
+}
+
+// Three tables, one after the other: entry x of the first, second and third is L of the word whose second, third and fourth byte is the
+// byte table's entry x, and whose other bytes are zero.
+#[derive(Drop)]
+pub struct Wide(pub [u32; 768]);
+
+impl Model for Wide {
+    ghost use Rattle.std.specs.Prelude.{◌≡◌, ℕ, List};
+    ghost use Rattle.sm4.specs.Table.{wide};
+
+    ghost Value = { List ℕ };
+
+    ghost view = { λ w. w.0 };
+
+    ghost invariant = { λ w. w.0 ≡ wide };
+}
+
 pub const TABLE: [u32; 512] = [
     0x8ed55b5b, 0xd0924242, 0x4deaa7a7, 0x06fdfbfb, 0xfccf3333, 0x65e28787, 0xc93df4f4, 0x6bb5dede,
     0x4e165858, 0x6eb4dada, 0x44145050, 0xcac10b0b, 0x8828a0a0, 0x17f8efef, 0x9c2cb0b0, 0x11051414,
@@ -70,8 +102,6 @@ pub const TABLE: [u32; 512] = [
     0x793c8f20, 0xee771dc0, 0x5f2f8be0, 0x3e1f07c0, 0xd76b9ae0, 0xcb659960, 0x391c8720, 0x48240900,
 ];
 
-// Three tables, one after the other: entry x of the first, second and third is L of the word whose second, third and fourth byte is the
-// byte table's entry x, and whose other bytes are zero.
 pub const WIDE: [u32; 768] = [
     0x5b8ed55b, 0x42d09242, 0xa74deaa7, 0xfb06fdfb, 0x33fccf33, 0x8765e287, 0xf4c93df4, 0xde6bb5de,
     0x584e1658, 0xda6eb4da, 0x50441450, 0x0bcac10b, 0xa08828a0, 0xef17f8ef, 0xb09c2cb0, 0x14110514,

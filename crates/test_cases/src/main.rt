@@ -8,7 +8,7 @@
 //     over A P M KEYS BITS BLOCK TAG      the same for 1,048,577 zero bytes, one more than the longest message has
 //     start A P M KEYS DECLARED           accepted or refused N
 //     piece BYTES BITS                    accepted or refused N
-//     zeros BYTES PIECES                  so many pieces of so many zero bytes, up to 65536: the last one's answer
+//     zeros BYTES PIECES                  so many pieces of so many zero bytes: the last one's answer
 //     finish ROOM                         as make
 //     forge PHASE PART A P M DECLARED TOTAL K K1 CHAIN HELD   forged: the session is now this record
 //     same                                whether the command on the session before this one left every field of it: same or changed
@@ -21,7 +21,7 @@
 //                                         G of N turned: no, where of the N tags with one bit turned G get no with the same calls;
 //                                         then message turned, and the answer for the message with its first bit turned
 //     slip A P M KEYS SLIP                accepted DATE lot LOT at PLACE length BYTES amount AMOUNT calls CALLS, LOT being the part that
-//                                         comes back; or refused N, and "with values" where another field or the part is not empty
+//                                         comes back; or refused N, and "with values" where the part is not empty
 //     changed A P M KEYS SLIP             the slip with each byte changed to every other value: how many are accepted, and how many get
 //                                         which refusal (31: one with values)
 //     prefixes A P M KEYS SLIP            the same for every beginning that is shorter than the slip
@@ -31,140 +31,84 @@
 //     trickled A P M KEYS SLIP SIZE       as slip, gathered from reads of SIZE bytes, 1 to 4096, each after a read of no bytes
 //     record A P M KEYS COUNT BYTES READ  a record of this count and of these bytes, at most 80, zeros after them: as slip, alone
 //                                         and with the read; then its count and bytes with the read
-//     write A P M KEYS YEAR MONTH DAY LOT AMOUNT ROOM   written LENGTH bytes CALLS calls and the room's bytes; or refused N, "with values"
-//                                         where length or calls are not 0, and whether the room is untouched
+//     write A P M KEYS YEAR MONTH DAY LOT AMOUNT ROOM   written LENGTH bytes CALLS calls and the room's bytes; or refused N, and
+//                                         whether the room is untouched
 //
-// Numbers are decimal and below 2^64. M may end in *, as 64*: a master is in use. Bytes are hex digits, at most 4096 bytes, and -
-// is no bytes. ROOM is a number of bytes up to 32, of write up to 96, each EE before the call. The commands from start to same,
+// Numbers are decimal and below 2^64. M may end in *, as 64*: a master is in use. Bytes are hex digits, and - is no bytes. ROOM is a
+// number of bytes, each EE before the call. The commands from start to same,
 // start_check, finish_check and aim act on one session, closed and zero at the text's first line, and print its phase after their
 // answer; PHASE is 0 closed, 1 at a byte edge, 2 after a part byte of PART bits, and PURPOSE 0 making, 1 checking. A line whose
-// first word is # is printed alone. No other line is looked for: tests/make-runs stores none that the reference cannot read.
+// first word is # is printed alone. Any other line is an error, which ends the run: tests/make-runs stores none that the reference
+// cannot read.
 #![tactic(auto)]
 
 mod bytewise;
 mod calls;
+mod changes;
 mod gathered;
 mod halves;
 mod lost;
+mod printed;
 mod sessions;
 mod slips;
+mod supplier;
 mod words;
 mod writes;
 
-use std::io::Read;
+use anyhow::{Result, bail};
+use sessions::State;
 use std::rt::Files;
-use std::{env, fs, io};
-use words::print;
+use std::{env, fs};
+use words::Words;
 
-// The commands, in the order of their numbers; 0 is a remark.
-const NAMES: [u8; 157] =
-    *b"# make check halves bytewise restore over slip changed prefixes firsts trickled record write start piece zeros finish \
-forge same start_check finish_check aim";
-
-pub(crate) const CHECK: usize = 2;
-
-pub(crate) const HALVES: usize = 3;
-
-pub(crate) const BYTEWISE: usize = 4;
-
-pub(crate) const RESTORE: usize = 5;
-
-pub(crate) const SLIP: usize = 7;
-
-pub(crate) const CHANGED: usize = 8;
-
-pub(crate) const FIRSTS: usize = 10;
-
-pub(crate) const TRICKLED: usize = 11;
-
-pub(crate) const RECORD: usize = 12;
-
-pub(crate) const WRITE: usize = 13;
-
-pub(crate) const START: usize = 14;
-
-pub(crate) const PIECE: usize = 15;
-
-pub(crate) const ZEROS: usize = 16;
-
-pub(crate) const FINISH: usize = 17;
-
-pub(crate) const SAME: usize = 19;
-
-pub(crate) const START_CHECK: usize = 20;
-
-pub(crate) const FINISH_CHECK: usize = 21;
-
-pub(crate) const AIM: usize = 22;
-
-fn main(rt: HostRuntime) -> io::Result<()> {
+fn main(rt: HostRuntime) -> Result<()> {
     for name in env::args(&rt)?.skip(1) {
         text(&rt, &name)?;
     }
     Ok(())
 }
 
-// The text that an argument names, of which the first 65536 bytes are read.
-fn text(rt: &(impl Files + Alloc + Print), name: &str) -> io::Result<()> {
-    let mut text = Vec::new(rt.alloc());
-    fs::open(rt, name)?.take(65536).read_to_end(&mut text)?;
-    lines(rt, &text)
-}
-
-fn lines(rt: &impl Print, text: &[u8]) -> io::Result<()> {
-    let mut state = sessions::closed();
-    let mut at = 0;
-    while at < text.len() {
-        let end = words::find(text, at, b'\n');
-        let next = line(rt, &text[at..end], state)?;
-        state = next;
-        if end == text.len() {
-            return Ok(());
-        }
-        at = end + 1;
+// The text that an argument names.
+fn text(rt: &(impl Files + AllocGlobal + Print), name: &str) -> Result<()> {
+    let text = fs::read_to_string(rt, name)?;
+    let mut state = State::closed();
+    for line in text.lines() {
+        print!(rt; "{line}")?;
+        answer(rt, Words::of(rt.alloc(), line), &mut state)?;
+        println!(rt)?;
     }
     Ok(())
 }
 
-fn line(rt: &impl Print, line: &[u8], state: sessions::State) -> io::Result<sessions::State> {
-    print(rt, line)?;
-    let names = NAMES;
-    let kind = words::place(&names, words::word(line, 0));
-    if kind == 0 {
-        print(rt, b"\n")?;
-        return Ok(state);
+fn answer(rt: &impl Print, mut words: Words, state: &mut State) -> Result<()> {
+    let command = words.word()?;
+    if command == "#" {
+        return Ok(());
     }
-    print(rt, b" -> ")?;
-    let next = answered(rt, kind, line, state)?;
-    print(rt, b"\n")?;
-    Ok(next)
-}
-
-fn answered(
-    rt: &impl Print,
-    kind: usize,
-    line: &[u8],
-    state: sessions::State,
-) -> io::Result<sessions::State> {
-    if kind < RESTORE {
-        calls::command(rt, kind, line)?;
-        return Ok(state);
+    print!(rt; " -> ")?;
+    match command {
+        "make" => calls::make(rt, words),
+        "check" => calls::check(rt, words),
+        "halves" => halves::halves(rt, words),
+        "bytewise" => bytewise::bytewise(rt, words),
+        "restore" => lost::restore(rt, words),
+        "over" => lost::over(rt, words),
+        "slip" => slips::slip(rt, words),
+        "changed" => slips::changed(rt, words),
+        "prefixes" => slips::prefixes(rt, words),
+        "firsts" => gathered::firsts(rt, words),
+        "trickled" => gathered::trickled(rt, words),
+        "record" => gathered::record(rt, words),
+        "write" => writes::write(rt, words),
+        "same" => state.tell(rt),
+        "start" => state.start(rt, words),
+        "start_check" => state.start_check(rt, words),
+        "piece" => state.piece(rt, words),
+        "zeros" => state.zeros(rt, words),
+        "finish" => state.finish(rt, words),
+        "finish_check" => state.finish_check(rt),
+        "forge" => state.forge(rt, words),
+        "aim" => state.aim(rt, words),
+        _ => bail!("no such command"),
     }
-    if kind < SLIP {
-        lost::command(rt, kind, line)?;
-        return Ok(state);
-    }
-    if kind < FIRSTS {
-        slips::command(rt, kind, line)?;
-        return Ok(state);
-    }
-    if kind < WRITE {
-        gathered::command(rt, kind, line)?;
-        return Ok(state);
-    }
-    if kind < START {
-        writes::command(rt, line)?;
-        return Ok(state);
-    }
-    sessions::command(rt, kind, line, state)
 }

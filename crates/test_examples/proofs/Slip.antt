@@ -40,8 +40,8 @@ sealed = covered_p12 ++ (0x7f ∷ 0x00 ∷ 0x0b ∷ 5 ∷ 4 ∷ 64 ∷ 0xa4 ∷ 
 abbrev pub agreed : Agreement
 agreed = record { algorithm = 5; padding = 4; m = 64; master = false }
 
-pub accepted-example : read_of agreed key sealed ≡ record { number = 0; calls = 3; contents = record { year = 2026; month = 11; day = 4; amount = 500; lot_at = 14; lot_len = 2 } }
-unfolding pick first_of bits_n digit num_of bytes_bits flat_map words zeros xor_b zip_with xor same_row rotl leftmost filled shiftl double halves_flipped every_second front sbox fk ck CK CKs quad flat four Sbox τ L L' T T' F round rounds made R enc round_keys encrypted cipher_at method_at complete gap one_gap prefix suffix pad D algorithm_at step steps some H G mac tag_of mac_from keys_used bits_of bytes_for byte_groups tag_bytes unpack_of settings_faults algorithm_wrong padding_wrong size_wrong key_bytes master_wrong key_bytes_wrong keys_same tag_length_wrong tag_at run_at calls_at outside any_outside two_bytes length_of value end_of field_faults digit_at two_digits year_of month_of day_of days leap days_in date_wrong lot_field_at amount_at seal_at lot_field amount_field seal_field covered amount_of expiry_faults lot_faults amount_faults seal_faults layout_faults named_values agreement_unmet tag_named seal_defined seal_calls seal_wrong slip_faults contents_of accepted_slip read_of
+pub accepted-example : read_of agreed key sealed ≡ record { number = 0; calls = 3; contents = record { date = record { year = 2026; month = 11; day = 4 }; amount = 500; lot_at = 14; lot_len = 2 } }
+unfolding pick first_of bits_n digit num_of bytes_bits flat_map words zeros xor_b zip_with xor same_row rotl leftmost filled shiftl double halves_flipped every_second front sbox fk ck CK CKs quad flat four Sbox τ L L' T T' F round rounds made R enc round_keys encrypted cipher_at method_at complete gap one_gap prefix suffix pad D algorithm_at step steps some H G mac tag_of mac_from keys_used bits_of bytes_for byte_groups tag_bytes unpack_of settings_faults key_bytes master_wrong key_bytes_wrong keys_same tag_at run_at calls_at outside any_outside two_bytes length_of value end_of field_faults digit_at two_digits year_of month_of day_of days leap days_in date_wrong lot_field_at amount_at seal_at lot_field amount_field seal_field covered amount_of expiry_faults lot_faults amount_faults seal_faults layout_faults named_values agreement_unmet tag_named seal_defined seal_calls seal_wrong slip_faults contents_of accepted_slip read_of
 accepted-example = refl
 
 pub written-example : slip_of agreed key (said 2026 11 4 (0x41 ∷ 0x37 ∷ []) 500) ≡ sealed

@@ -2,53 +2,74 @@
 // tags have 64 bits. Algorithm 7 gives 63 at most, so its rows have 63 bits of the printed tag and a zero: of 16E02904EFB765B7 the
 // first ones, where the text fills its blocks (data 1), of 846FA2A5D83445A9 the last ones, where it does not (data 2). The tags of A.7,
 // which are algorithm 6's, must be right under the master there too, with two cipher calls more.
-ghost use Rattle.std.specs.Prelude.{◌≤◌};
+ghost use Rattle.std.specs.Prelude.{◌≤◌, length};
 
-use crate::{first, hex, part, words};
-use words::print;
+use crate::words::say;
+use Data::{One, Two};
+use settings::{Agreement, Outcome};
 
-// A row for each tag: algorithm, padding, data, and the tag.
-const ROWS: [u8; 792] = *b"\
-    1 1 1 16E02904EFB765B7\
-    1 2 1 4B6553AF3C4E2744\
-    1 3 1 71AF7E4553404CBC\
-    1 1 2 BA89E45FE8ABF242\
-    1 2 2 421AD1690AA152E2\
-    1 3 2 6A4A86F5B5E468DA\
-    2 1 1 1E9A71D3BC92DFA7\
-    2 2 1 E423E35599AFD948\
-    2 3 1 4003BA1B6ADC53A8\
-    2 1 2 4EC3C7FACFAAC607\
-    2 2 2 F02625CEAD008D4E\
-    2 3 2 FFD5F1F2E5EDA5CB\
-    3 1 1 2763211B2BCAF719\
-    3 2 1 51E9928C2238330C\
-    3 3 1 7CD48C4242E45575\
-    3 1 2 E32D99A689C05259\
-    3 2 2 197247229CE9D7B6\
-    3 3 2 3C430F1EA43B540C\
-    4 1 1 DD1052A7AFE8999B\
-    4 2 1 7E1A9A5E0EF0947F\
-    4 3 1 28A70D6BCCF74422\
-    4 1 2 AA9DB3D9651F862B\
-    4 2 2 949476D35F17261E\
-    4 3 2 C9D34E16C49AB643\
-    5 4 1 692C437100F3B5EE\
-    5 4 2 4738A6C760B280FC\
-    6 1 1 B38A96195BAA61FC\
-    6 2 1 A0C465EE5896972F\
-    6 3 1 43050D51C656AE60\
-    6 1 2 8CF6E64314FEF417\
-    6 2 2 60DD955ED0CA3D7A\
-    6 3 2 61E00049E26962A3\
-    7 4 1 16E02904EFB765B6\
-    7 4 2 08DF454BB0688B52\
-    8 4 1 E40ED79C3149A1C9\
-    8 4 2 A99D13013E892EE2";
+const TEXT: [u8; 32] = *b"This is the test message for mac";
 
-const ROW_LENGTH: usize = 22;
+// The texts of the annex: all of that one, or its first 25 bytes.
+#[derive(Clone, Copy)]
+enum Data {
+    One = 1,
+    Two = 2,
+}
 
-const ROW_COUNT: usize = 36;
+impl Data {
+    fn text(self) -> &'static [u8]
+        ensures { length result.now ≤ 32 }
+    {
+        match self {
+            Data::One => &TEXT,
+            Data::Two => &TEXT[..25],
+        }
+    }
+}
+
+// A tag as the annex prints it: algorithm, padding, data, and the tag.
+#[derive(Clone, Copy)]
+struct Row(usize, usize, Data, u64);
+
+static ROWS: [Row; 36] = [
+    Row(1, 1, One, 0x16E02904EFB765B7),
+    Row(1, 2, One, 0x4B6553AF3C4E2744),
+    Row(1, 3, One, 0x71AF7E4553404CBC),
+    Row(1, 1, Two, 0xBA89E45FE8ABF242),
+    Row(1, 2, Two, 0x421AD1690AA152E2),
+    Row(1, 3, Two, 0x6A4A86F5B5E468DA),
+    Row(2, 1, One, 0x1E9A71D3BC92DFA7),
+    Row(2, 2, One, 0xE423E35599AFD948),
+    Row(2, 3, One, 0x4003BA1B6ADC53A8),
+    Row(2, 1, Two, 0x4EC3C7FACFAAC607),
+    Row(2, 2, Two, 0xF02625CEAD008D4E),
+    Row(2, 3, Two, 0xFFD5F1F2E5EDA5CB),
+    Row(3, 1, One, 0x2763211B2BCAF719),
+    Row(3, 2, One, 0x51E9928C2238330C),
+    Row(3, 3, One, 0x7CD48C4242E45575),
+    Row(3, 1, Two, 0xE32D99A689C05259),
+    Row(3, 2, Two, 0x197247229CE9D7B6),
+    Row(3, 3, Two, 0x3C430F1EA43B540C),
+    Row(4, 1, One, 0xDD1052A7AFE8999B),
+    Row(4, 2, One, 0x7E1A9A5E0EF0947F),
+    Row(4, 3, One, 0x28A70D6BCCF74422),
+    Row(4, 1, Two, 0xAA9DB3D9651F862B),
+    Row(4, 2, Two, 0x949476D35F17261E),
+    Row(4, 3, Two, 0xC9D34E16C49AB643),
+    Row(5, 4, One, 0x692C437100F3B5EE),
+    Row(5, 4, Two, 0x4738A6C760B280FC),
+    Row(6, 1, One, 0xB38A96195BAA61FC),
+    Row(6, 2, One, 0xA0C465EE5896972F),
+    Row(6, 3, One, 0x43050D51C656AE60),
+    Row(6, 1, Two, 0x8CF6E64314FEF417),
+    Row(6, 2, Two, 0x60DD955ED0CA3D7A),
+    Row(6, 3, Two, 0x61E00049E26962A3),
+    Row(7, 4, One, 0x16E02904EFB765B6),
+    Row(7, 4, Two, 0x08DF454BB0688B52),
+    Row(8, 4, One, 0xE40ED79C3149A1C9),
+    Row(8, 4, Two, 0xA99D13013E892EE2),
+];
 
 // K and K' of A.2 to A.6, A.8 and A.9.
 const KEYS: [u8; 32] = *b"\
@@ -63,130 +84,68 @@ const KEYS_OF_A7: [u8; 32] = *b"\
 // K* of A.7, the master that these two are derived from.
 const MASTER_OF_A7: [u8; 16] = *b"\x01\x23\x45\x67\x89\xab\xcd\xef\xfe\xdc\xba\x98\x76\x54\x32\x10";
 
-// Data 1; data 2 is its first 25 bytes.
-const TEXT: [u8; 32] = *b"This is the test message for mac";
-
 pub(crate) fn run(rt: &impl Print) {
-    let rows = ROWS;
-    words::print_number(rt, run_rows(rt, &rows));
-    words::print_both(rt, b" of ", ROW_COUNT);
-    print(rt, b" tags are right\n");
+    let right = ROWS.iter().filter(|row| run_row(rt, row)).count();
+    let rows = ROWS.len();
+    say(rt, format_args!("{right} of {rows} tags are right\n"));
 }
 
-// Runs each row, and gives the number of those that are right.
-fn run_rows(rt: &impl Print, rows: &[u8]) -> usize {
-    let mut right = 0;
-    for i in 0..ROW_COUNT {
-        if run_row(rt, part(rows, ROW_LENGTH * i, ROW_LENGTH)) {
-            right += 1;
-        }
-    }
-    right
-}
-
-fn run_row(rt: &impl Print, row: &[u8]) -> bool {
-    let algorithm = value(row, 0);
-    let agreed = settings::Agreement {
+// Makes a row's tag anew, and says whether it is the one that is printed.
+fn run_row(rt: &impl Print, row: &Row) -> bool {
+    let Row(algorithm, padding, data, tag) = *row;
+    let agreed = Agreement {
         algorithm,
-        padding: value(row, 2),
-        m: tag_bits(algorithm),
+        padding,
+        // algorithms are the standard's numbers
+        m: if algorithm == 7 { 63 } else { 64 },
         master: false,
     };
-    let made = hex::digits(tag_of(agreed, value(row, 4)));
-    let right = check::same(&made, part(row, 6, 16));
-    print_row(rt, agreed, value(row, 4), &made, right);
-    right
+    let made = made(agreed, data).unwrap_or(0);
+    let is_right = made == tag;
+    let m = agreed.m;
+    let data = data as u8;
+    let judged = if is_right { "ok" } else { "wrong" };
+    say(
+        rt,
+        format_args!(
+            "algorithm {algorithm}, padding {padding}, data {data}, {m} bits: {made:016X} {judged}\n"
+        ),
+    );
+    is_right
 }
 
-fn tag_of(agreed: settings::Agreement, data: usize) -> [u8; 8] {
+// The tag that is made, if it is found right, under a master too where there is one.
+fn made(agreed: Agreement, data: Data) -> Option<u64> {
     let keys = keys_of(agreed.algorithm);
-    let text = TEXT;
-    let size = size_of(data);
-    made(
-        agreed,
-        first(&keys, keys::bytes_of(agreed.master, agreed.algorithm)),
-        first(&text, size),
-        8 * size,
-    )
-}
-
-// The tag of a text that is made and found right, under a master too where there is one, else zeros.
-fn made(agreed: settings::Agreement, keys: &[u8], text: &[u8], bits: usize) -> [u8; 8] {
+    let text = data.text();
+    let bits = 8 * text.len();
     let mut made = [0u8; 8];
-    tag::make(agreed, keys, text, bits, &mut made);
-    if let settings::Outcome::Yes(calls) = tag::check(agreed, keys, text, bits, &made) {
-        if is_right_under_master(agreed, text, bits, &made, calls) {
-            return made;
+    tag::make(agreed, keys, text, bits, &mut made).ok()?;
+    match tag::check(agreed, keys, text, bits, &made) {
+        Ok(Outcome::Yes(calls)) if is_right_under_master(agreed, data, made, calls) => {
+            Some(u64::from_be_bytes(made))
         }
+        _ => None,
     }
-    [0u8; 8]
 }
 
 // Whether a tag of A.7 is right under the master there too, with two calls more than these. The others have no master, so they pass.
-fn is_right_under_master(
-    agreed: settings::Agreement,
-    text: &[u8],
-    bits: usize,
-    tag: &[u8],
-    calls: usize,
-) -> bool {
+fn is_right_under_master(agreed: Agreement, data: Data, made: [u8; 8], calls: usize) -> bool {
     if agreed.algorithm != 6 {
         return true;
     }
-    let master = MASTER_OF_A7;
-    let derived = settings::Agreement {
-        algorithm: agreed.algorithm,
-        padding: agreed.padding,
-        m: agreed.m,
+    let derived = Agreement {
         master: true,
+        ..agreed
     };
-    if let settings::Outcome::Yes(more) = tag::check(derived, &master, text, bits, tag) {
-        return calls <= more && more - calls == 2;
+    let text = data.text();
+    match tag::check(derived, &MASTER_OF_A7, text, 8 * text.len(), &made) {
+        Ok(Outcome::Yes(more)) => more.checked_sub(calls) == Some(2),
+        _ => false,
     }
-    false
 }
 
-fn keys_of(algorithm: usize) -> [u8; 32] {
-    if algorithm == 6 {
-        return KEYS_OF_A7;
-    }
-    KEYS
-}
-
-fn size_of(data: usize) -> usize
-    ensures { result ≤ 32 }
-{
-    if data == 1 {
-        return 32;
-    }
-    25
-}
-
-fn print_row(rt: &impl Print, agreed: settings::Agreement, data: usize, made: &[u8], right: bool) {
-    words::print_both(rt, b"algorithm ", agreed.algorithm);
-    words::print_both(rt, b", padding ", agreed.padding);
-    words::print_both(rt, b", data ", data);
-    words::print_both(rt, b", ", agreed.m);
-    print(rt, b" bits: ");
-    print(rt, made);
-    if right {
-        print(rt, b" ok\n");
-        return;
-    }
-    print(rt, b" wrong\n");
-}
-
-fn tag_bits(algorithm: usize) -> usize {
-    if algorithm == 7 {
-        return 63;
-    }
-    64
-}
-
-// The number that the digit at a place stands for.
-fn value(row: &[u8], i: usize) -> usize {
-    if i < row.len() {
-        return (row[i] % 16) as usize;
-    }
-    0
+fn keys_of(algorithm: usize) -> &'static [u8] {
+    let keys = if algorithm == 6 { &KEYS_OF_A7 } else { &KEYS };
+    &keys[..keys::bytes_of(false, algorithm).min(32)]
 }

@@ -2,15 +2,8 @@
 -- where the covered bytes end, and in each field the value that was written; where nothing refused it, the date and the amount too
 -- (`says_back`). With a seal of an allowed length after them, the fields have no fault (`layout-back`).
 -- Assumes nothing.
-use mathlib.Core.Path.{◌≡◌, refl, sym, ap, ap₂, ◌∙◌}
-use mathlib.Core.Bool.{Bool, true, false, ◌||◌}
-use mathlib.Core.List.{List, [], ◌∷◌, ◌++◌, map, append_assoc, append-nil}
-use Prim.Native.Nat.{ℕ, ◌+◌, ◌-◌, ◌*◌, ◌/◌, ◌%◌, ◌≤◌, ◌<◌}
-use lib.Dec.{eqb}
-use native.Mathlib.Omega.{arith}
-use lib.ListN.{length, take, drop, length-append, length-drop}
-use lib.Seq.{take_at}
-use borrow.Author.Tests.{le-ltb}
+use Rattle.std.proofs.Common.{◌≡◌, refl, sym, ap, ap₂, ◌∙◌, Bool, false, List, [], ◌∷◌, ◌++◌, map, append_assoc, append-nil, ℕ, ◌+◌, ◌-◌, ◌*◌, ◌/◌, ◌%◌, ◌≤◌, ◌<◌, arith, length, take, drop, length-append, length-drop, take_at, le-ltb}
+use Rattle.std.proofs.lemmas.Bool.Decides.{nat_tests}
 use Rattle.bits.specs.Choice.{pick, ◌given◌, first_of}
 use Rattle.bits.proofs.Faults.{first-append-clear}
 use Rattle.fields.specs.Format.{expiry_row, lot_row, amount_row, seal_row}
@@ -21,7 +14,7 @@ use Rattle.fields.proofs.Inside.{lot-there, seal-there, seal-long}
 use Rattle.fields.proofs.Whole.{after-lot, after-amount}
 use Rattle.fields.proofs.Written.{written-length, written-value, written_after, written-clear}
 use Rattle.fields.proofs.Dates.{Real, real-date, calendar}
-use Rattle.fields.proofs.Formed.{Within, own_first, end_whole, inside}
+use Rattle.fields.proofs.Formed.{Within, row_first, first_none, first_more, end_whole, inside}
 use Rattle.fields.proofs.Laid.{expiry-numbered, lot-numbered, amount-numbered}
 use Rattle.fields.specs.declared.Row.{Row}
 use Rattle.writing.proofs.Sayable.{Sayable}
@@ -49,13 +42,7 @@ four-back n h =
 -- no month has more than 31 days
 month-most : (b : Bool) (m : ℕ) → calendar b m ≤ 31
 unfolding calendar pick
-month-most b m = go b (eqb m 2) (eqb m 4 || (eqb m 6 || (eqb m 9 || eqb m 11)))
-  where
-    go : (b c d : Bool) → pick c (pick b 29 28) (pick d 30 31) ≤ 31
-    go true true d = omega arith
-    go false true d = omega arith
-    go b false true = omega arith
-    go b false false = omega arith
+month-most b m = grind (arith, nat_tests)
 
 -- what a slip says
 abbrev pub says_of : List ℕ → Says
@@ -152,8 +139,7 @@ byte-in n = record { low = omega arith; high = omega arith }
 
 -- no fault of the row's, and not the field's own
 own-clear : (row : Row) (field : List ℕ) (k : ℕ) (b : Bool) → first_of (field_faults row field) ≡ 0 → b ≡ false → first_of (field_faults row field ++ (k given b ∷ [])) ≡ 0
-unfolding pick
-own-clear row field k b e h = sym (own_first row field k b _ 0 refl e (rw h refl))
+own-clear row field k b e h = row_first row field (k given b ∷ []) ∙ rw (e, first_more k b [], h, first_none) refl
 
 -- of the covered fields, whatever comes after them
 module _ (x : Says) (ok : Sayable x) (rest : List ℕ) where

@@ -1,15 +1,8 @@
 -- What is not refused: the lot, the amount and the date are as their rules ask (`sayable`). And what `lay_out` answers: the
 -- refusal, or the covered bytes first.
 -- Assumes nothing.
-use mathlib.Core.Path.{◌≡◌, refl, ap, ◌∙◌}
-use mathlib.Core.Bool.{false}
-use mathlib.Core.List.{List, ◌++◌}
-use Prim.Native.Nat.{ℕ, ◌+◌, ◌≤◌}
-use native.Mathlib.Omega.{arith}
-use lib.ListN.{length, take, drop, replicate, length-append}
-use lib.Seq.{take_at}
+use Rattle.std.proofs.Common.{◌≡◌, refl, ap, ◌∙◌, false, List, ◌++◌, ℕ, ◌+◌, ◌≤◌, arith, length, take, drop, replicate, length-append, take_at, Result, Ok, Err}
 use Rattle.bits.specs.Choice.{pick, first_of}
-use Rattle.bits.proofs.Strings.{neither}
 use Rattle.bits.proofs.Choice.{chosen-number}
 use Rattle.bits.proofs.Lists.{drop-replicate}
 use Rattle.bits.proofs.Strings.{neither}
@@ -18,8 +11,10 @@ use Rattle.fields.specs.Format.{amount_row}
 use Rattle.fields.specs.Field.{any_outside, field_of}
 use Rattle.fields.specs.Date.{date_wrong}
 use Rattle.fields.proofs.Formed.{Within, within, inside}
+use Rattle.refusals.specs.declared.Refusal.{Refusal}
+use Rattle.refusals.proofs.Number.{refusal-numbered, same-refusal, first-number}
 use Rattle.writing.specs.declared.Covered.{Covered}
-use Rattle.writing.specs.Writing.{Says, value_wrong, says_faults, expiry_value, amount_value, covered_of, filled_to, lay_out}
+use Rattle.writing.specs.Writing.{Says, value_wrong, says_faults, expiry_value, amount_value, covered_of, filled_to, CoveredTold, lay_out, covered_told}
 
 pub record Sayable (x : Says) : Type 0 where
   pub lot-length : Within 1 32 (length x.lot)
@@ -31,6 +26,9 @@ pub record Sayable (x : Says) : Type 0 where
 pub says-every : {P : ℕ → Type 0} → P 22 → P 23 → (x : Says) → Every P (says_faults x)
 unfolding says_faults
 says-every p22 p23 x = with p22 (with p22 (with p23 all))
+
+-- of tests with their refusals
+pub ruleset numbered = (first-number)
 
 pub says-numbered : (x : Says) → Numbered (says_faults x)
 says-numbered x = says-every refl refl x
@@ -69,7 +67,7 @@ module _ (x : Says) where
   -- the number of the first fault
   pub laid-refusal : (lay_out x).refusal ≡ first_of (says_faults x)
   unfolding lay_out
-  laid-refusal = chosen-number (λ (l : Covered). l.refusal) (first_of (says_faults x)) _ _ refl refl
+  laid-refusal = chosen-number (λ (l : CoveredTold). l.refusal) (first_of (says_faults x)) _ _ refl refl
 
   -- where there is none: the covered bytes first, and their number
   pub laid-first : first_of (says_faults x) ≡ 0 → take (lay_out x).count (lay_out x).bytes ≡ covered_of x
@@ -79,3 +77,11 @@ module _ (x : Says) where
   pub laid-count : first_of (says_faults x) ≡ 0 → (lay_out x).count ≡ length (covered_of x)
   unfolding lay_out pick
   laid-count e = rw e refl
+
+-- what is told the same is the same
+pub same-told : (a b : Result Covered Refusal) → covered_told a ≡ covered_told b → a ≡ b
+unfolding covered_told
+same-told (Ok c) (Ok d) e = λ i. Ok (record { count = (e i).count; bytes = (e i).bytes })
+same-told (Ok c) (Err s) e = absurd (omega (arith, refusal-numbered s, ap (λ (t : CoveredTold). t.refusal) e))
+same-told (Err r) (Ok d) e = absurd (omega (arith, refusal-numbered r, ap (λ (t : CoveredTold). t.refusal) e))
+same-told (Err r) (Err s) e = ap Err (same-refusal r s (ap (λ (t : CoveredTold). t.refusal) e))

@@ -2,11 +2,7 @@
 -- (`written-again`). For the digits and the bytes of a number are the only ones that give it (`expiry-again`, `amount-again`), so
 -- what the slip says can be written, and is written to the same bytes.
 -- Assumes nothing.
-use mathlib.Core.Path.{◌≡◌, refl, sym, ap, ap₂, ◌∙◌, subst}
-use mathlib.Core.List.{List, [], ◌∷◌, ◌++◌}
-use Prim.Native.Nat.{ℕ, ◌+◌, ◌-◌, ◌*◌, ◌/◌, ◌%◌, ◌≤◌, ◌<◌}
-use native.Mathlib.Omega.{arith}
-use lib.ListN.{length, drop, get_or}
+use Rattle.std.proofs.Common.{◌≡◌, refl, sym, ap, ap₂, ◌∙◌, subst, List, [], ◌∷◌, ◌++◌, ℕ, ◌+◌, ◌-◌, ◌*◌, ◌/◌, ◌%◌, ◌≤◌, ◌<◌, arith, length, drop, get_or}
 use Rattle.bits.proofs.Packed.{spread, spread-all}
 use Rattle.fields.specs.Format.{expiry_row, lot_row, amount_row, seal_row}
 use Rattle.fields.specs.Field.{two_bytes, value, end_of, field_of}

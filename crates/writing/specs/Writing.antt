@@ -1,13 +1,16 @@
 -- The fields of a slip that its seal covers, written from what the slip is to say, by the rows that reading uses (02 §1); and what
 -- cannot be written: refusals 22 and 23.
 -- Assumes nothing.
-use Rattle.std.specs.Prelude.{Bool, ◌||◌, List, [], ◌∷◌, ◌++◌, ℕ, ◌+◌, ◌-◌, ◌/◌, ◌%◌, length, replicate, eqb}
+use Rattle.std.specs.Prelude.{Bool, ◌||◌, List, [], ◌∷◌, ◌++◌, ℕ, ◌+◌, ◌-◌, ◌/◌, ◌%◌, length, replicate, eqb, Result, Ok, Err}
 use Rattle.bits.specs.Choice.{pick, Fault, ◌given◌, first_of}
 use Rattle.fields.specs.Format.{expiry_row, lot_row, amount_row}
 use Rattle.fields.specs.Field.{outside, any_outside, field_of}
 use Rattle.fields.specs.Date.{date_wrong}
 use Rattle.fields.specs.Layout.{amount_wrong}
 use Rattle.fields.specs.declared.Row.{Row}
+use Rattle.refusals.specs.Number.{refusal_number}
+use Rattle.refusals.specs.declared.Refusal.{Refusal}
+use Rattle.writing.specs.declared.Said.{Said}
 use Rattle.writing.specs.declared.Covered.{Covered}
 
 -- what a slip says: the expiry, the lot's bytes, and the amount in microlitres
@@ -20,6 +23,10 @@ pub record Says : Type 0 where
 
 abbrev pub said : ℕ → ℕ → ℕ → List ℕ → ℕ → Says
 said year month day lot amount = record { year = year; month = month; day = day; lot = lot; amount = amount }
+
+-- what the code is given, told so
+abbrev pub says : Said → Says
+says x = said x.date.year x.date.month x.date.day x.lot.now x.amount
 
 -- ---- what cannot be written
 
@@ -66,10 +73,21 @@ covered_of x =
 unfoldable pub filled_to : ℕ → List ℕ → List ℕ
 filled_to k s = s ++ replicate (k - length s) 0
 
--- their number, and the bytes with zeros after them up to the most there can be; or the refusal
-unfoldable pub lay_out : Says → Covered
+-- the covered bytes: the refusal, 0 where there is none, their number, and the bytes with zeros after them up to the most there can be
+pub record CoveredTold : Type 0 where
+  pub refusal : ℕ
+  pub count : ℕ
+  pub bytes : List ℕ
+
+-- the bytes; or the refusal
+unfoldable pub lay_out : Says → CoveredTold
 lay_out x =
     let no = first_of (says_faults x) in
     pick (eqb no 0)
     (record { refusal = 0; count = length (covered_of x); bytes = filled_to 53 (covered_of x) })
     (record { refusal = no; count = 0; bytes = filled_to 53 [] })
+
+-- what the code answers, told so
+unfoldable pub covered_told : Result Covered Refusal → CoveredTold
+covered_told (Ok c) = record { refusal = 0; count = c.count; bytes = c.bytes }
+covered_told (Err r) = record { refusal = refusal_number r; count = 0; bytes = filled_to 53 [] }

@@ -2,122 +2,115 @@
 // 22 and 23, and the bytes. Numbers come in as `usize`, and nothing is narrowed before it is tested.
 #![tactic(auto)]
 
-ghost use Rattle.std.specs.Prelude.{◌≡◌, ◌++◌, ◌+◌, ◌≤◌, ◌<◌, length, drop};
+ghost use Rattle.std.specs.Prelude.{◌≡◌, ◌++◌, ◌+◌, ◌≤◌, ◌<◌, ◌^◌, length, drop};
 ghost use Rattle.bits.specs.Choice.{first_of};
+ghost use Rattle.refusals.specs.Number.{number_in};
 ghost use Rattle.fields.specs.Field.{field_of};
-ghost use Rattle.writing.specs.Writing.{said, value_wrong, says_faults, digit_of, expiry_value, amount_value, covered_of, lay_out};
+ghost use Rattle.writing.specs.Writing.{says, value_wrong, says_faults, digit_of, expiry_value, amount_value, covered_of, covered_told, lay_out};
+
+use fields::Date;
+use refusals::Refusal;
+
+// What a slip is to say: its expiry, the bytes of its lot, and its amount in microlitres.
+#[derive(Clone, Copy)]
+pub struct Said<'a> {
+    pub date: Date,
+    pub lot: &'a [u8],
+    pub amount: usize,
+}
 
 // The covered bytes of a slip: so many, and zeros after them; 53 at the most, of which 3 + 8 are the expiry's, 3 + 32 the lot's and 3 + 4
-// the amount's. Or the refusal, and zeros.
+// the amount's. An array and a count, since the library has no heap.
 #[derive(Clone, Copy)]
 pub struct Covered {
-    pub refusal: usize,
     pub count: usize,
     pub bytes: [u8; 53],
 }
 
-// ---- what cannot be written
+// ---- the fields one by one
 
+#[tactic(auto, unfolding(crate::specs::Writing::value_wrong))]
 fn value_wrong(row: fields::Row, value: &[u8]) -> bool
     ensures { result ≡ value_wrong row value.now }
 {
-    if fields::outside(row.least, row.most, value.len()) {
-        return true;
-    }
-    fields::any_outside(row.low, row.high, value)
+    fields::outside(row.least, row.most, value.len())
+        || fields::any_outside(row.low, row.high, value)
 }
-
-// The first of 22 (lot or amount) and 23 (date), and 0 where there is none.
-fn refusal(year: usize, month: usize, day: usize, lot: &[u8], amount: usize) -> usize
-    ensures { result ≡ first_of (says_faults (said year month day lot.now amount)) }
-{
-    let lot_wrong = value_wrong(fields::LOT_ROW, lot);
-    let amount_wrong = fields::amount_wrong(amount);
-    let date_wrong = fields::date_wrong(year, month, day);
-    bits::first(&[22, 22, 23], &[lot_wrong, amount_wrong, date_wrong])
-}
-
-// ---- the values of the fields
 
 // The lowest decimal digit, as its byte.
+#[tactic(auto, unfolding(crate::specs::Writing::digit_of))]
 fn digit(x: usize) -> u8
     ensures { result ≡ digit_of x }
 {
-    (48 + x % 10) as u8
+    b'0' + (x % 10) as u8
 }
 
-fn expiry_value(year: usize, month: usize, day: usize) -> [u8; 8]
-    ensures { result ≡ expiry_value year month day }
+#[tactic(auto, unfolding(crate::specs::Writing::expiry_value))]
+fn expiry_value(date: Date) -> [u8; 8]
+    ensures { result ≡ expiry_value date.year date.month date.day }
 {
+    let Date { year, month, day } = date;
     [
-        digit(year / 1000),
-        digit(year / 100),
-        digit(year / 10),
-        digit(year),
-        digit(month / 10),
-        digit(month),
-        digit(day / 10),
-        digit(day),
+        year / 1000,
+        year / 100,
+        year / 10,
+        year,
+        month / 10,
+        month,
+        day / 10,
+        day,
     ]
+    .map(digit)
 }
-
-fn amount_value(amount: usize) -> [u8; 4]
-    ensures { result ≡ amount_value amount }
-{
-    [
-        (amount / 16777216 % 256) as u8,
-        (amount / 65536 % 256) as u8,
-        (amount / 256 % 256) as u8,
-        (amount % 256) as u8,
-    ]
-}
-
-// ---- the bytes
 
 // Puts a field at the front of the room: its label, its length, high byte first, and its value.
 fn put_field(row: fields::Row, value: &[u8], room: &mut [u8])
     requires { (row.label < 256) × (length value.now < 65536) × (3 + length value.now ≤ length room.old) }
     ensures { room.new ≡ field_of row value.now ++ drop (3 + length value.now) room.old }
 {
-    let head = [
-        row.label as u8,
-        (value.len() / 256) as u8,
-        (value.len() % 256) as u8,
-    ];
-    block::put_part(&head, room);
+    let [high, low] = (value.len() as u16).to_be_bytes();
+    block::put_part(&[row.label as u8, high, low], room);
     block::put_part(value, &mut room[3..]);
 }
 
-// Puts the fields 01, 02 and 03 one after the other at the front of the room.
-fn put_covered(year: usize, month: usize, day: usize, lot: &[u8], amount: usize, room: &mut [u8])
-    requires { (length lot.now ≤ 32) × (53 ≤ length room.old) }
-    ensures { room.new ≡ covered_of (said year month day lot.now amount) ++ drop (21 + length lot.now) room.old }
-{
-    let expiry = expiry_value(year, month, day);
-    let microlitres = amount_value(amount);
-    let at = 14 + lot.len();
-    put_field(fields::EXPIRY_ROW, &expiry, room);
-    put_field(fields::LOT_ROW, lot, &mut room[11..]);
-    put_field(fields::AMOUNT_ROW, &microlitres, &mut room[at..]);
+// ---- what a slip says
+
+impl Said<'_> {
+    // The first of 22 (lot or amount) and 23 (date), if there is one.
+    #[tactic(auto, using(crate::proofs::Sayable::numbered), unfolding(refusals::specs::Number::faults_of, crate::specs::Writing::says_faults))]
+    fn refusal(self) -> Result<(), Refusal>
+        ensures { number_in result ≡ first_of (says_faults (says self.entry)) }
+    {
+        bits::first_fault(&[
+            (value_wrong(fields::LOT_ROW, self.lot), Refusal::FieldValue),
+            (fields::amount_wrong(self.amount), Refusal::FieldValue),
+            (self.date.is_wrong(), Refusal::Date),
+        ])
+    }
+
+    // Puts the fields 01, 02 and 03 one after the other at the front of the room.
+    fn put_covered(self, room: &mut [u8])
+        requires { (length self.lot.now ≤ 32) × (self.amount < 2 ^ 32) × (53 ≤ length room.old) }
+        ensures { room.new ≡ covered_of (says self.entry) ++ drop (21 + length self.entry.lot.now) room.old }
+    {
+        let expiry = expiry_value(self.date);
+        let microlitres = (self.amount as u32).to_be_bytes();
+        let at = 14 + self.lot.len();
+        put_field(fields::EXPIRY_ROW, &expiry, room);
+        put_field(fields::LOT_ROW, self.lot, &mut room[11..]);
+        put_field(fields::AMOUNT_ROW, &microlitres, &mut room[at..]);
+    }
 }
 
 // The covered bytes of the slip that says this, or the refusal.
-pub fn lay_out(year: usize, month: usize, day: usize, lot: &[u8], amount: usize) -> Covered
-    ensures { result ≡ lay_out (said year month day lot.now amount) }
+pub fn lay_out(said: Said) -> Result<Covered, Refusal>
+    ensures { covered_told result ≡ lay_out (says said.entry) }
 {
-    let no = refusal(year, month, day, lot, amount);
-    if no != 0 {
-        return Covered {
-            refusal: no,
-            count: 0,
-            bytes: [0u8; 53],
-        };
-    }
+    said.refusal()?;
     let mut bytes = [0u8; 53];
-    put_covered(year, month, day, lot, amount, &mut bytes);
-    Covered {
-        refusal: 0,
-        count: 21 + lot.len(),
+    said.put_covered(&mut bytes);
+    Ok(Covered {
+        count: 21 + said.lot.len(),
         bytes,
-    }
+    })
 }

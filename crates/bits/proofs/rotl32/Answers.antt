@@ -1,15 +1,9 @@
--- `rotl32` meets its contract: a shift to the left, a shift to the right and an or rotate (`rotl-shifts`); by 0 nothing moves.
+-- `rotl32` meets its contract: a rotation is a number beside itself (`rotl-shifts`).
 -- Assumes nothing.
-use mathlib.Core.Path.{sym, ap, ◌∙◌}
-use Prim.Native.Nat.{ℕ, ◌%◌}
-use native.Mathlib.Omega.{arith}
-use Rattle.bits.specs.Str.{bits_n, rotl}
-use Rattle.bits.proofs.Strings.{rotl-zero}
+use Rattle.std.proofs.Common.{arith, ap, ◌∙◌}
+use Rattle.bits.specs.Str.{bits_n}
 use Rattle.bits.proofs.Shifts.{rotl-shifts}
 use Rattle.bits.proofs.rotl32.Goals as goal
 
-pub returns-then-k-eq0 : goal.returns-then-k-eq0
-returns-then-k-eq0 c = sym (ap (λ (k : ℕ). rotl k (bits_n 32 c.args.x)) c.if-k-eq0.true ∙ rotl-zero (bits_n 32 c.args.x))
-
 pub returns : goal.returns
-returns c = rotl-shifts 32 (c.args.r % 32) c.args.x (omega arith) c.ranges.x.fits
+returns c = ap (bits_n 32) c.rotate_left.ensures ∙ rotl-shifts 32 _ c.args.x (omega arith) c.ranges.x.fits

@@ -1,25 +1,16 @@
--- `equal_bytes` meets its contract: the invariant is that the differences of the first i bytes are 0 exactly where these are the same
--- (`equal-more`).
+-- `equal_bytes` meets its contract: what is gathered over the pairs of bytes tells whether they are the same (`equal-is`).
 -- Assumes nothing.
-use mathlib.Core.Path.{refl}
-use mathlib.Core.List.{flat_map}
-use native.Mathlib.Omega.{arith}
-use Rattle.bits.specs.Str.{bytes_bits, same_b}
-use Rattle.block.proofs.Equality.{equal-more, equal-all, unequal-length}
-use borrow.Author.Rules.{rules}
+use Rattle.std.proofs.Common.{rules, tests, sym, ◌∙◌}
+use Rattle.std.proofs.lemmas.Bool.{ne_eqb}
+use Rattle.std.proofs.lemmas.Iterator.{YieldsList-from_slice, YieldsList-from_zip}
+use Rattle.std.proofs.lemmas.Iterator.Consumers.{fold_from_yields_List}
+use Rattle.block.proofs.Equality.{with_difference, equal-is, unequal-length}
 use Rattle.block.proofs.equal_bytes.Goals as goal
 
 pub returns-then-a-b : goal.returns-then-a-b
-returns-then-a-b c = let s = c.args in unequal-length s.a.now s.b.now (λ e. absurd (omega (arith, c.if-a-b.true)))
+returns-then-a-b c =
+    equal-is c.args.a.now c.args.b.now _ c.if-a-b.true (λ i. (c.type_inv.a i).fits) (λ i. (c.type_inv.b i).fits)
+    (fold_from_yields_List _ with_difference 0 _ c.fold.ensures.ran (YieldsList-from_zip (YieldsList-from_slice c.args.a.now cc) (YieldsList-from_slice c.args.b.now cc)) (λ d x e q k. search (rules, tests)))
 
-pub loop-i-init : goal.loop-i-init
-unfolding bytes_bits flat_map same_b
-loop-i-init c = (search rules, search rules, refl)
-
-pub loop-i-preserved : goal.loop-i-preserved
-loop-i-preserved c =
-    let l = c.loop-i in
-    (search rules, search rules, equal-more _ _ l.i l.differences (omega arith) (omega arith) (c.type_inv.a l.i).fits (c.type_inv.b l.i).fits l.invariant.2)
-
-pub returns : goal.returns
-returns c = let l = c.loop-i in equal-all _ _ l.i l.differences (omega arith) l.invariant.1 l.invariant.2
+pub returns-else-a-b : goal.returns-else-a-b
+returns-else-a-b c = ne_eqb _ _ c.if-a-b.false ∙ sym (unequal-length c.args.a.now c.args.b.now c.if-a-b.false)

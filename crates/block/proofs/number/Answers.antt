@@ -1,13 +1,10 @@
--- `number` meets its contract: twelve zero bytes and the four of the word are the number in 128 bits, of which the last n are it in n
--- bits (`number_is`).
+-- `number` meets its contract: of the number in 128 bits the last n are it in n bits (`number_is`).
 -- Assumes nothing.
-use Rattle.bits.proofs.Packed.{spread}
+use Rattle.std.proofs.Common.{ap, ◌∙◌}
+use Rattle.bits.specs.Str.{bits_n}
+use Rattle.block.proofs.Windows.{bytes-of}
 use Rattle.block.proofs.Widths.{number_is}
-use borrow.Author.Rules.{rules}
 use Rattle.block.proofs.number.Goals as goal
 
 pub returns : goal.returns
-unfolding spread
-returns c =
-    let start = c in
-    number_is start.args.x start.args.n c.bytes-b.result _ start.requires (search rules) (search rules) c.bytes-b.ensures c.rightmost_of.ensures
+returns c = number_is c.args.x c.args.n _ _ c.requires (bytes-of _ _ c.to_be_bytes.ensures ∙ ap (bits_n 128) c.from.ensures) c.rightmost_of.ensures

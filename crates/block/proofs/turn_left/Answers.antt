@@ -1,20 +1,15 @@
 -- `turn_left` meets its contract: a window one bit in, of the first n bits and the same again (`turn-left-is`).
 -- Assumes nothing.
-use mathlib.Core.Path.{◌≡◌, ap, ◌∙◌}
-use native.Mathlib.Omega.{arith}
-use lib.ListN.{length}
+use Rattle.std.proofs.Common.{◌≡◌, length, arith, ap, ◌∙◌, rules}
 use Rattle.bits.specs.Str.{bytes_bits, leftmost}
 use Rattle.bits.proofs.Packed.{length-bytes_bits}
 use Rattle.block.specs.Block.{filled_block}
 use Rattle.block.proofs.Widths.{turn-left-is}
-use borrow.Author.Rules.{rules}
 use Rattle.block.proofs.turn_left.Goals as goal
 
 pub returns : goal.returns
 unfolding leftmost
 returns c =
-    let start = c in
-    let a = start.args in
-    let l : length a.b ≡ 16 = search rules in
+    let long : length c.args.b ≡ 16 = search rules in
     c.leftmost.ensures
-    ∙ ap filled_block (turn-left-is (bytes_bits a.b) a.n (omega (arith, length-bytes_bits a.b)) start.requires.1 start.requires.0 _ _ c.join.ensures c.window.ensures)
+    ∙ ap filled_block (turn-left-is (bytes_bits c.args.b) c.args.n (omega (arith, length-bytes_bits c.args.b)) c.requires.1 c.requires.0 _ _ c.join.ensures c.window.ensures)

@@ -20,29 +20,29 @@ use Rattle.chain.proofs.advance.Goals as goal
 pub xor_part-requires : goal.xor_part-requires
 xor_part-requires c =
     let start = c.before.before.before.before in
-    let wide = width-at start.args.k.cipher in
-    (omega (arith, wide), omega (arith, wide, start.requires.1))
+    let wide = width-at start.args.k.now.cipher in
+    (omega (arith, wide), omega (arith, wide, start.requires))
 
 -- the first bits of the block enciphered once
-once : (c : Lts.After-enc Tie.the-claims Reads.Pre Reads.Post) → let a = c.before.before.before.before.before.args in let n = width_of a.k in
-    take n (bytes_bits c.enc-x.result) ≡ enc_at a.k.cipher (words a.k.rounds.first) (xor_b (take n (bytes_bits a.part.now)) (take n (bytes_bits a.h)))
+once : (c : Lts.After-enc Tie.the-claims Reads.Pre Reads.Post) → let a = c.before.before.before.before.before.args in let n = width_of a.k.now in
+    take n (bytes_bits c.enc-x.result) ≡ enc_at a.k.now.cipher (words a.k.now.rounds.first) (xor_b (take n (bytes_bits a.part.now)) (take n (bytes_bits a.h)))
 once c =
     let start = c.before.before.before.before.before in
     let a = start.args in
-    let W = width-at a.k.cipher in
+    let W = width-at a.k.now.cipher in
     c.enc-x.ensures
-    ∙ ap (enc_at a.k.cipher (words a.k.rounds.first)) (first-xor-part (width_of a.k) (c.before.before.width-size.result / 8) a.part.now a.h _ W (omega (arith, W, c.before.before.width-size.ensures)) start.requires.1 (search rules) c.before.xor_part.ensures)
+    ∙ ap (enc_at a.k.now.cipher (words a.k.now.rounds.first)) (first-xor-part (width_of a.k.now) (c.before.before.width-size.result / 8) a.part.now a.h _ W (omega (arith, W, c.before.before.width-size.ensures)) start.requires (search rules) c.before.xor_part.ensures)
 
 pub returns-then-twice : goal.returns-then-twice
 returns-then-twice c K e =
     let twice = c.before.before.before.before in
     let a = twice.before.before.before.before.before.before.args in
-    hit _ _ _ _ (sym twice.twice.ensures ∙ c.before.before.if-twice.true) (c.enc.ensures ∙ ap (enc_at a.k.cipher (words a.k.rounds.third)) (once twice.before))
-    ∙ step_is a.k.cipher a.k.settings.algorithm a.k.rounds K e a.begun _
+    hit _ _ _ _ (sym twice.twice.ensures ∙ c.before.before.if-twice.true) (c.enc.ensures ∙ ap (enc_at a.k.now.cipher (words a.k.now.rounds.third)) (once twice.before))
+    ∙ step_is a.k.now.cipher a.k.now.settings.algorithm a.k.now.rounds K e a.begun _
 
 pub returns : goal.returns
 returns c K e =
     let twice = c.before.before in
     let a = twice.before.before.before.before.before.before.args in
     miss _ _ _ _ (sym twice.twice.ensures ∙ c.if-twice.false) (once twice.before)
-    ∙ step_is a.k.cipher a.k.settings.algorithm a.k.rounds K e a.begun _
+    ∙ step_is a.k.now.cipher a.k.now.settings.algorithm a.k.now.rounds K e a.begun _

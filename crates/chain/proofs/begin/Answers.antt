@@ -20,12 +20,12 @@ use borrow.Author.Rules.{rules}
 use Rattle.chain.proofs.begin.Goals as goal
 
 pub number-b-requires : goal.number-b-requires
-number-b-requires c = omega (arith, width-at c.args.k.cipher)
+number-b-requires c = omega (arith, width-at c.args.k.now.cipher)
 
 pub advance-requires : goal.advance-requires
 advance-requires c =
     let long : length c.number-b.result ≡ 16 = search rules in
-    (search rules, omega (arith, width-at c.args.k.cipher))
+    omega (arith, width-at c.args.k.now.cipher, long)
 
 pub returns-then-k-eq3 : goal.returns-then-k-eq3
 unfolding leftmost blank
@@ -33,7 +33,7 @@ returns-then-k-eq3 c K e =
     let tested = c in
     let width = tested in
     let a = width.args in
-    let k = a.k in
+    let k = a.k.now in
     let n = width_of k in
     let start = tested.start_value-h.ensures K e in
     let counted = ap (take n) (rw width.width-n.ensures at c.number-b.ensures) ∙ take-filled n (bits_n n a.declared) (length-bits_n n a.declared) in
@@ -46,7 +46,7 @@ unfolding leftmost blank
 returns c K e =
     let width = c in
     let a = width.args in
-    let k = a.k in
+    let k = a.k.now in
     begins (cipher_at k.cipher) (lawful-at k.cipher) (algorithm_at k.settings.algorithm) K a.declared k.settings.padding _ (search rules)
     ((rw width.width-n.ensures at c.leftmost-2.ensures)
     ∙ ap filled_block (miss _ _ _ _ (ne_eqb _ 3 c.if-k-eq3.false) (c.start_value-h.ensures K e)))

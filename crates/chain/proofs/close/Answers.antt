@@ -18,7 +18,7 @@ held-long c = search rules
 pub advance-h-requires : goal.advance-h-requires
 advance-h-requires c =
     let start = c.before.before.before.before.before.before.before.before.before in
-    (search rules, omega (arith, width-at start.args.k.cipher, held-long start))
+    omega (arith, width-at start.args.k.now.cipher, held-long start)
 
 pub returns-then-spills : goal.returns-then-spills
 returns-then-spills c K e =
@@ -28,7 +28,7 @@ returns-then-spills c K e =
     let width = waits.before.width-n.ensures in
     let full = sym c.before.before.before.before.before.spills.ensures ∙ c.before.before.before.before.if-spills.true in
     c.ended.ensures K e
-    ∙ close-spill (width_of a.k) (width-at a.k.cipher) (steps_of a.k K) a.k.settings.padding a.k.settings.m a.total _ a.hold _ waits.held_bits-waits.ensures waits.before.before.mark-p.ensures (held-long start) _
+    ∙ close-spill (width_of a.k.now) (width-at a.k.now.cipher) (steps_of a.k.now K) a.k.now.settings.padding a.k.now.settings.m a.total _ a.hold _ waits.held_bits-waits.ensures waits.before.before.mark-p.ensures (held-long start) _
     (rw width at full) (rw c.before.before.before.begun_at-begun.ensures at (c.before.advance-h.ensures K e))
 
 pub returns : goal.returns
@@ -39,5 +39,5 @@ returns c K e =
     let width = waits.before.width-n.ensures in
     let space = sym c.before.before.before.spills.ensures ∙ c.before.before.if-spills.false in
     (rw width at (c.ended-2.ensures K e))
-    ∙ close-plain (width_of a.k) (width-at a.k.cipher) (steps_of a.k K) a.k.settings.padding a.k.settings.m a.total _ a.hold _ waits.held_bits-waits.ensures waits.before.before.mark-p.ensures (held-long start) _
+    ∙ close-plain (width_of a.k.now) (width-at a.k.now.cipher) (steps_of a.k.now K) a.k.now.settings.padding a.k.now.settings.m a.total _ a.hold _ waits.held_bits-waits.ensures waits.before.before.mark-p.ensures (held-long start) _
     (rw width at space) c.before.join-b.ensures

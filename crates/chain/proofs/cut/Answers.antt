@@ -16,9 +16,9 @@ pub returns-then-k-ne7 : goal.returns-then-k-ne7
 returns-then-k-ne7 c K =
     let width = c in
     let a = width.args in
-    let g = take (cipher_at a.k.cipher).n (bytes_bits a.g) in
+    let g = take (cipher_at a.k.now.cipher).n (bytes_bits a.g) in
     (rw width.width-n.ensures at c.leftmost_of.ensures)
-    ∙ ap filled_block (sym (cut_at (cipher_at a.k.cipher) K a.complete a.k.settings.m g a.k.settings.algorithm c.if-k-ne7.true))
+    ∙ ap filled_block (sym (cut_at (cipher_at a.k.now.cipher) K a.complete a.k.now.settings.m g a.k.now.settings.algorithm c.if-k-ne7.true))
 
 pub returns-then-complete : goal.returns-then-complete
 unfolding algorithm_at steps pick
@@ -27,7 +27,7 @@ returns-then-complete c =
     rw (tested.if-k-ne7.false, c.if-complete.true) (λ K. rw tested.width-n.ensures at c.leftmost_of-then-complete.ensures)
 
 pub rightmost_of-requires : goal.rightmost_of-requires
-rightmost_of-requires c = omega (arith, width-at c.args.k.cipher)
+rightmost_of-requires c = omega (arith, width-at c.args.k.now.cipher)
 
 pub returns : goal.returns
 unfolding algorithm_at steps pick

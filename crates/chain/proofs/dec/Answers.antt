@@ -7,5 +7,4 @@ use Rattle.chain.proofs.dec.Goals as goal
 
 pub returns : goal.returns
 returns c =
-    let a = c.args in
-    first-dec a.cipher (words a.rk) a.b c.decrypt.result (search rules) c.decrypt.ensures
+    first-dec c.args.k.now.cipher (words c.args.rk) c.args.b c.decrypt.result (search rules) c.decrypt.ensures

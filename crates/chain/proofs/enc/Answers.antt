@@ -7,5 +7,4 @@ use Rattle.chain.proofs.enc.Goals as goal
 
 pub returns : goal.returns
 returns c =
-    let a = c.args in
-    first-enc a.cipher (words a.rk) a.b c.encrypt.result (search rules) c.encrypt.ensures
+    first-enc c.args.k.now.cipher (words c.args.rk) c.args.b c.encrypt.result (search rules) c.encrypt.ensures

@@ -12,7 +12,7 @@ pub returns : goal.returns
 unfolding finish
 returns c K e =
     let a = c.args in
-    let S = steps_of a.k K in
-    let z = first-xor (width_of a.k) a.b a.h _ c.xor.ensures in
+    let S = steps_of a.k.now K in
+    let z = first-xor (width_of a.k.now) a.b a.h _ c.xor.ensures in
     c.cut.ensures K
-    ∙ ap (λ (g : Bits). filled_block (S.cut a.complete a.k.settings.m g)) (c.last.ensures K e ∙ ap (λ (z : Bits). (S.last a.complete z).out) z)
+    ∙ ap (λ (g : Bits). filled_block (S.cut a.complete a.k.now.settings.m g)) (c.last.ensures K e ∙ ap (λ (z : Bits). (S.last a.complete z).out) z)

@@ -1,6 +1,6 @@
 -- `expand` meets its contract, field by field: what `schedule`, `row_of` and `expanded_where` ensure.
 -- Assumes nothing.
-use Rattle.chain.specs.Chain.{rounds_bits, rounds_of, key_blocks}
+use Rattle.chain.specs.Rounds.{rounds_bits, rounds_of, key_blocks}
 use Rattle.chain.proofs.expand.Goals as goal
 
 pub returns : goal.returns

@@ -7,5 +7,5 @@ use Rattle.chain.proofs.expanded_where.Goals as goal
 pub returns-then-on : goal.returns-then-on
 returns-then-on c = hit _ _ _ _ c.if-on.true c.schedule.ensures
 
-pub returns : goal.returns
-returns c = miss _ _ _ _ c.if-on.false refl
+pub returns-else-on : goal.returns-else-on
+returns-else-on c = miss _ _ _ _ c.if-on.false refl

@@ -23,25 +23,25 @@ returns-then-waits-eq0 c K e =
     let begun = c.before.before.before in
     let start = begun.before.before.before.before in
     let a = start.args in
-    let n = width_of a.k in
+    let n = width_of a.k.now in
     c.advance.ensures K e
-    ∙ ap₂ (λ (b : Bool) (u : Bits). (step (steps_of a.k K) b (xor_b u (take n (bytes_bits a.hold.value)))).out) begun.begun_at-begun.ensures
-    (part-alone (bytes_bits a.hold.held) a.part.now n a.waits start.requires.1 c.before.if-waits-eq0.true)
+    ∙ ap₂ (λ (b : Bool) (u : Bits). (step (steps_of a.k.now K) b (xor_b u (take n (bytes_bits a.hold.value)))).out) begun.begun_at-begun.ensures
+    (part-alone (bytes_bits a.hold.held) a.part.now n a.waits start.requires c.before.if-waits-eq0.true)
 
 pub after-b-requires : goal.after-b-requires
-after-b-requires c = omega (arith, width-at c.before.before.before.before.before.args.k.cipher)
+after-b-requires c = omega (arith, width-at c.before.before.before.before.before.args.k.now.cipher)
 
 pub advance-requires-2 : goal.advance-requires-2
 advance-requires-2 c =
     let long : length c.before.after-b.result ≡ 16 = search rules in
-    (search rules, omega (arith, width-at c.before.before.before.before.before.before.before.args.k.cipher))
+    omega (arith, width-at c.before.before.before.before.before.before.before.args.k.now.cipher, long)
 
 pub returns : goal.returns
 returns c K e =
     let begun = c.before.before.before.before.before in
     let start = begun.before.before.before.before in
     let a = start.args in
-    let n = width_of a.k in
+    let n = width_of a.k.now in
     c.advance-2.ensures K e
-    ∙ ap₂ (λ (b : Bool) (u : Bits). (step (steps_of a.k K) b (xor_b u (take n (bytes_bits a.hold.value)))).out) begun.begun_at-begun.ensures
-    (part-after a.hold.held a.part.now _ n a.waits (width-at a.k.cipher) (held-long start) start.requires.1 c.before.before.after-b.ensures)
+    ∙ ap₂ (λ (b : Bool) (u : Bits). (step (steps_of a.k.now K) b (xor_b u (take n (bytes_bits a.hold.value)))).out) begun.begun_at-begun.ensures
+    (part-after a.hold.held a.part.now _ n a.waits (width-at a.k.now.cipher) (held-long start) start.requires c.before.before.after-b.ensures)

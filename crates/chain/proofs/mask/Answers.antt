@@ -24,8 +24,8 @@ returns-then-complete c =
 pub double-requires : goal.double-requires
 double-requires c = let W = width-at c.args.cipher in (omega (arith, W), omega (arith, W))
 
-pub returns : goal.returns
-returns c =
+pub returns-else-complete : goal.returns-else-complete
+returns-else-complete c =
     let a = c.args in
     let p = (cipher_at a.cipher).poly in
     let width = c.width-n.ensures in

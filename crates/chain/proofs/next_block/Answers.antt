@@ -1,11 +1,13 @@
--- `next_block` meets its contract: one test.
+-- `next_block` meets its contract: the two cases are the definition's.
 -- Assumes nothing.
-use mathlib.Core.Path.{refl}
-use Rattle.bits.proofs.Choice.{hit, miss}
+use Rattle.std.proofs.Common.{rules}
+use Rattle.bits.specs.Choice.{pick}
 use Rattle.chain.proofs.next_block.Goals as goal
 
 pub returns-then-backwards : goal.returns-then-backwards
-returns-then-backwards c = hit _ _ _ _ c.if-backwards.true refl
+unfolding pick
+returns-then-backwards c = search rules
 
-pub returns : goal.returns
-returns c = miss _ _ _ _ c.if-backwards.false refl
+pub returns-else-backwards : goal.returns-else-backwards
+unfolding pick
+returns-else-backwards c = search rules

@@ -14,12 +14,12 @@ pub returns-then-k-eq8 : goal.returns-then-k-eq8
 unfolding blank algorithm_at steps
 returns-then-k-eq8 c =
     let tested = c in
-    let k = tested.args.k in
+    let k = tested.args.k.now in
     let made = c.enc.ensures ∙ ap (enc_at k.cipher (words k.rounds.first)) (first-blank k.cipher) in
     rw tested.if-k-eq8.true (λ K e. made ∙ (λ i. k-is k.cipher 8 k.rounds K e i (zeros (width_of k))))
 
 pub returns : goal.returns
 unfolding blank
 returns c K e =
-    let k = c.args.k in
+    let k = c.args.k.now in
     first-blank k.cipher ∙ sym (start-at (cipher_at k.cipher) K k.settings.algorithm c.if-k-eq8.false)

@@ -19,8 +19,8 @@ returns-then-complete c =
 pub turn_left-requires : goal.turn_left-requires
 turn_left-requires c = let W = width-at c.args.cipher in (omega (arith, W), omega (arith, W))
 
-pub returns : goal.returns
-returns c =
+pub returns-else-complete : goal.returns-else-complete
+returns-else-complete c =
     let a = c.args in
     let turn = rw c.width-n.ensures at c.turn_left.ensures in
     miss _ _ _ _ c.if-complete.false (first-rotl a.cipher a.z c.turn_left.result (search rules) turn)

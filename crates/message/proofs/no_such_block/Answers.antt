@@ -9,7 +9,6 @@ use lib.Dec.{ltb, leb}
 use borrow.Author.Tests.{lt-ltb, le-ltb, lt-leb, le-leb}
 use Rattle.cipher.specs.Ciphers.{cipher_at}
 use Rattle.cipher.proofs.Laws.{width-at}
-use Rattle.message.specs.Faults.{no_such_block}
 use Rattle.message.proofs.no_such_block.Goals as goal
 
 no-block-at : (l j n : ℕ) → 0 < n → leb (l / n) j ≡ ltb l (suc j * n)
@@ -27,7 +26,6 @@ pub nonzero_div-result : goal.nonzero_div-result
 nonzero_div-result c = omega (arith, c.width.ensures, width-at 1)
 
 pub returns : goal.returns
-unfolding no_such_block
 returns c =
     let a = c.args in
     ap (λ (n : ℕ). leb (a.bits / n) a.number) c.width.ensures ∙ no-block-at a.bits a.number (cipher_at 1).n (omega (arith, width-at 1))

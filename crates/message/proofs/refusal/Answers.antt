@@ -1,19 +1,20 @@
--- `refusal` meets its contract: what each test ensures, in the order of the list.
+-- `refusal` meets its contract: the first of the tests is the first of the faults (`first-number`), test by test.
 -- Assumes nothing.
-use mathlib.Core.Path.{◌∙◌}
-use mathlib.Core.List.{[], ◌∷◌}
-use Rattle.bits.specs.Choice.{◌given◌, first_of, faults}
+use Rattle.std.proofs.Common.{ap, ◌∙◌, [], ◌∷◌}
+use Rattle.bits.specs.Choice.{◌given◌, first_of}
+use Rattle.refusals.specs.Number.{number_in, faults_of}
+use Rattle.refusals.proofs.Number.{first-number}
 use Rattle.message.specs.Faults.{message_faults}
 use Rattle.message.proofs.refusal.Goals as goal
 
 pub returns : goal.returns
-unfolding message_faults faults
+unfolding message_faults faults_of
 returns c =
-    let at = c in
-    c.first.ensures
+    ap number_in c.first_fault.ensures
+    ∙ first-number _
     ∙ λ i. first_of (
-    7 given at.length_wrong.ensures i ∷
-    8 given at.too_many_bits.ensures i ∷
-    9 given at.too_few_blocks.ensures i ∷
-    10 given at.args.ten ∷
+    7 given c.length_wrong.ensures i ∷
+    8 given c.too_many_bits.ensures i ∷
+    9 given c.too_few_blocks.ensures i ∷
+    10 given c.args.ten ∷
     [])

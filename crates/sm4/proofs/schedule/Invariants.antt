@@ -2,7 +2,6 @@
 -- words made by it.
 -- Assumes nothing.
 use mathlib.Core.Path.{◌≡◌}
-use Prim.Native.Nat.{◌-◌}
 use lib.ListN.{length, take}
 use Rattle.bits.specs.Str.{words}
 use Rattle.sm4.specs.Constants.{CKs}
@@ -13,7 +12,4 @@ use Rattle.sm4.proofs.schedule.Given as goal
 
 abbrev pub invariant-loop-i : goal.invariant-loop-i
 invariant-loop-i l =
-    Walked T' (CKs 32 0) l.initial.s l.s l.i × (length l.r ≡ 32) × (words (take l.i l.r) ≡ made T' (joined l.initial.s) (take l.i (CKs 32 0)))
-
-abbrev pub decreases-loop-i : goal.decreases-loop-i
-decreases-loop-i l = 32 - l.i
+    Walked T' (CKs 32 0) l.initial.s l.s l.i × (length l.word-items ≡ 32) × (words (take l.i l.word-items) ≡ made T' (joined l.initial.s) (take l.i (CKs 32 0)))

@@ -1,28 +1,28 @@
 -- `check` meets its contract: the settings' refusal (`check-refused`), or what is checked under them (`check-checked`).
 -- Assumes nothing.
-use mathlib.Core.Path.{sym, ◌∙◌}
+use Rattle.std.proofs.Common.{rules, ◌≡◌, Err, refl, sym, ap, ◌∙◌}
 use Rattle.keys.specs.Given.{key_bits}
 use Rattle.settings.specs.InUse.{unpacked}
+use Rattle.settings.specs.Answers.{checked_told, told}
 use Rattle.settings.proofs.Sound.{sound-fits}
 use Rattle.tag.proofs.Making.{check-refused, check-checked}
 use Rattle.tag.proofs.check.Goals as goal
 
 pub check_under-requires : goal.check_under-requires
-check_under-requires c =
-    let at = c in
-    let a = at.args in
-    (sound-fits a.agreement _ (key_bits at.unpack-unpacked.result.keys) _ (sym at.checked-checked.ensures ∙ c.in-Sound.is)).1
+unfolding checked_told
+check_under-requires c = (sound-fits c.args.agreement _ (key_bits c.unpack-unpacked.result.keys) _ (sym c.in_ok-s.ensures)).1
 
-pub returns-in-Unsound : goal.returns-in-Unsound
-returns-in-Unsound c =
-    let at = c in
-    let a = at.args in
-    let u = at.unpack-unpacked in
-    check-refused a.agreement a.keys.now a.message.now a.bits (key_bits u.result.keys) u.ensures.0 _ at.checked-checked.ensures _ c.in-Unsound.is a.offered.now
+pub returns-in_err-s : goal.returns-in_err-s
+unfolding checked_told told
+returns-in_err-s c =
+    let a = c.args in
+    let refused : c.from_residual.result ≡ Err c.in_err-s.field-0.0 = search rules in
+    ap told refused
+    ∙ check-refused a.agreement a.keys.now a.message.now a.bits (key_bits c.unpack-unpacked.result.keys) c.unpack-unpacked.ensures.0 _ c.in_err-s.ensures _ refl a.offered.now
 
-pub returns-in-Sound : goal.returns-in-Sound
-returns-in-Sound c =
-    let at = c in
-    let a = at.args in
-    let u = at.unpack-unpacked in
-    check-checked a.agreement a.keys.now a.message.now a.bits (key_bits u.result.keys) u.ensures.0 _ at.checked-checked.ensures _ c.in-Sound.is a.offered.now _ (c.check_under.ensures (unpacked a.agreement a.keys.now) u.ensures)
+pub returns : goal.returns
+unfolding checked_told
+returns c =
+    let a = c.args in
+    let u = c.unpack-unpacked in
+    check-checked a.agreement a.keys.now a.message.now a.bits (key_bits u.result.keys) u.ensures.0 _ c.in_ok-s.ensures _ refl a.offered.now _ (c.check_under.ensures (unpacked a.agreement a.keys.now) u.ensures)

@@ -1,41 +1,32 @@
 -- `restore` meets its contract: the settings' refusal (`restore-refused`), or what is restored under them (`restore-restored`).
 -- Assumes nothing.
-use mathlib.Core.Path.{◌≡◌, sym, ap, ◌∙◌}
-use lib.ListN.{length}
+use Rattle.std.proofs.Common.{rules, ◌≡◌, Err, length, refl, sym, ap, ◌∙◌}
 use Rattle.keys.specs.Given.{key_bits}
-use Rattle.settings.specs.Answers.{checked_of}
+use Rattle.settings.specs.Answers.{checked_told, checked_of}
 use Rattle.settings.specs.declared.Agreement.{Agreement}
-use Rattle.tag.specs.Restore.{full_only}
+use Rattle.tag.specs.Restore.{restored_told}
 use Rattle.tag.proofs.Restoring.{full-keys, restore-refused, full-settings, restore-restored}
-use Rattle.tag.proofs.restore.Lts
-use Rattle.tag.proofs.restore.Reads
-use Rattle.tag.proofs.restore.Tie
 use Rattle.tag.proofs.restore.Goals as goal
 
--- judged with what counts as m
-checked : (c : Lts.After-checked Tie.the-claims Reads.Pre Reads.Post) → let a = c.args in c.checked-checked.result ≡ checked_of (full_only a.agreement) (length a.keys.now) (key_bits c.unpack-unpacked.result.keys)
-checked c =
-    let a = c.args in
-    c.checked-checked.ensures ∙ ap (λ (A : Agreement). checked_of A (length a.keys.now) (key_bits c.unpack-unpacked.result.keys)) c.full_only.ensures
-
 pub restore_under-requires : goal.restore_under-requires
+unfolding checked_told
 restore_under-requires c =
-    let at = c in
-    let a = at.args in
-    let u = at.unpack-unpacked in
-    full-settings a.agreement a.keys.now a.message.now a.bits a.block a.tag.now (key_bits u.result.keys) (u.ensures.0 ∙ sym (full-keys a.agreement a.keys.now)) _ (checked c.before.before.before) _ c.in-Sound.is
+    let a = c.args in
+    full-settings a.agreement a.keys.now a.message.now a.bits a.block a.tag.now (key_bits c.unpack.result.keys) (c.unpack.ensures.0 ∙ sym (full-keys a.agreement a.keys.now)) _
+    (c.in_ok-s.ensures ∙ ap (λ (A : Agreement). checked_of A (length a.keys.now) (key_bits c.unpack.result.keys)) c.full_only.ensures) _ refl
 
-pub returns-in-Unsound : goal.returns-in-Unsound
-returns-in-Unsound c =
-    let at = c in
-    let a = at.args in
-    let u = at.unpack-unpacked in
-    restore-refused a.agreement a.keys.now a.message.now a.bits a.block a.tag.now (key_bits u.result.keys) (u.ensures.0 ∙ sym (full-keys a.agreement a.keys.now)) _ (checked c.before.before) _ c.in-Unsound.is
+pub returns-in_err-s : goal.returns-in_err-s
+unfolding checked_told restored_told
+returns-in_err-s c =
+    let a = c.args in
+    let refused : c.from_residual.result ≡ Err c.in_err-s.field-0.0 = search rules in
+    ap (λ r. (restored_told r, a.message.now)) refused
+    ∙ restore-refused a.agreement a.keys.now a.message.now a.bits a.block a.tag.now (key_bits c.unpack.result.keys) (c.unpack.ensures.0 ∙ sym (full-keys a.agreement a.keys.now)) _
+    (c.in_err-s.ensures ∙ ap (λ (A : Agreement). checked_of A (length a.keys.now) (key_bits c.unpack.result.keys)) c.full_only.ensures) _ refl
 
-pub returns-in-Sound : goal.returns-in-Sound
-returns-in-Sound c =
-    let under = c in
-    let at = under in
-    let a = at.args in
-    let u = at.unpack-unpacked in
-    restore-restored a.agreement a.keys.now a.message.now a.bits a.block a.tag.now (key_bits u.result.keys) (u.ensures.0 ∙ sym (full-keys a.agreement a.keys.now)) _ (checked c.before.before.before.before.before.before) _ under.in-Sound.is _ under.restore_under.ensures
+pub returns : goal.returns
+unfolding checked_told
+returns c =
+    let a = c.args in
+    restore-restored a.agreement a.keys.now a.message.now a.bits a.block a.tag.now (key_bits c.unpack.result.keys) (c.unpack.ensures.0 ∙ sym (full-keys a.agreement a.keys.now)) _
+    (c.in_ok-s.ensures ∙ ap (λ (A : Agreement). checked_of A (length a.keys.now) (key_bits c.unpack.result.keys)) c.full_only.ensures) _ refl _ c.restore_under.ensures

@@ -11,14 +11,14 @@ pub returns-then-twice : goal.returns-then-twice
 returns-then-twice c K e y long came =
     let twice = c in
     let a = twice.args in
-    let first = dec_at a.k.cipher (words a.k.rounds.first) in
-    let third = dec_at a.k.cipher (words a.k.rounds.third) in
+    let first = dec_at a.k.now.cipher (words a.k.now.rounds.first) in
+    let third = dec_at a.k.now.cipher (words a.k.now.rounds.third) in
     hit _ _ _ _ (sym twice.twice.ensures ∙ c.if-twice.true)
     (c.dec-then-twice.ensures ∙ ap first (c.dec.ensures ∙ ap third c.enc-y.ensures))
-    ∙ step-back-is a.k.cipher a.k.settings.algorithm a.k.rounds K e a.begun y _ long came
+    ∙ step-back-is a.k.now.cipher a.k.now.settings.algorithm a.k.now.rounds K e a.begun y _ long came
 
 pub returns : goal.returns
 returns c K e y long came =
     let a = c.args in
     miss _ _ _ _ (sym c.twice.ensures ∙ c.if-twice.false) refl
-    ∙ step-back-is a.k.cipher a.k.settings.algorithm a.k.rounds K e a.begun y _ long came
+    ∙ step-back-is a.k.now.cipher a.k.now.settings.algorithm a.k.now.rounds K e a.begun y _ long came

@@ -1,9 +1,8 @@
 -- `last_back` meets its contract: at a number that differs the definition computes, and its keys' round keys are those given; any other
 -- deciphers once (`last-back-at`).
 -- Assumes nothing.
-use mathlib.Core.Path.{◌≡◌, refl, sym, ap, ◌∙◌}
-use mathlib.Core.Bool.{Bool, true, false, not}
-use lib.ListN.{take}
+use Rattle.std.proofs.Common.{rules, ◌≡◌, Bool, true, false, not, take, refl, sym, ap, ◌∙◌}
+use mathlib.Core.Logic.{inl, inr}
 use Rattle.bits.specs.Choice.{pick}
 use Rattle.bits.specs.Str.{Bits, bytes_bits, words, xor_b, zeros, rotl, rotr, double}
 use Rattle.cipher.specs.Ciphers.{cipher_at, enc_at, dec_at}
@@ -14,61 +13,45 @@ use Rattle.chain.proofs.Firsts.{first-xor, first-blank}
 use Rattle.chain.proofs.Rows.{last-back-at, k-is, k'-is, d-is, d'-is}
 use Rattle.chain.proofs.back.last_back.Goals as goal
 
-pub returns-then-algorithm-eq2 : goal.returns-then-algorithm-eq2
+pub returns-in-2 : goal.returns-in-2
 unfolding algorithm_at backs
-returns-then-algorithm-eq2 c =
-    let a = c.args in
-    let k = a.k in
-    let g = take (cipher_at k.cipher).n (bytes_bits a.g) in
-    rw c.if-algorithm-eq2.true
-    (λ K e. c.dec-then-algorithm-eq2.ensures ∙ ap (dec_at k.cipher (words k.rounds.first)) c.dec.ensures
-    ∙ (λ i. d-is k.cipher 2 k.rounds K e i (d'-is k.cipher 2 k.rounds K e refl i g)))
+returns-in-2 c =
+    let k = c.args.k.now in
+    let g = take (cipher_at k.cipher).n (bytes_bits c.args.g) in
+    let twice = c.dec-in-2.ensures ∙ ap (dec_at k.cipher (words k.rounds.first)) c.dec.ensures in
+    elim c.in-2.is [
+      | inl two ↦ rw two (λ K e. twice ∙ (λ i. d-is k.cipher 2 k.rounds K e i (d'-is k.cipher 2 k.rounds K e refl i g)))
+      | inr four ↦ rw four (λ K e. twice ∙ (λ i. d-is k.cipher 4 k.rounds K e i (d'-is k.cipher 4 k.rounds K e refl i g)))
+    ]
 
-pub returns-then-algorithm-eq4 : goal.returns-then-algorithm-eq4
+pub returns-in-3 : goal.returns-in-3
 unfolding algorithm_at backs
-returns-then-algorithm-eq4 c =
-    let a = c.args in
-    let k = a.k in
-    let g = take (cipher_at k.cipher).n (bytes_bits a.g) in
-    rw c.if-algorithm-eq4.true
-    (λ K e. c.dec-then-algorithm-eq4-2.ensures ∙ ap (dec_at k.cipher (words k.rounds.first)) c.dec-then-algorithm-eq4.ensures
-    ∙ (λ i. d-is k.cipher 4 k.rounds K e i (d'-is k.cipher 4 k.rounds K e refl i g)))
-
-pub returns-then-algorithm-eq6 : goal.returns-then-algorithm-eq6
-unfolding algorithm_at backs
-returns-then-algorithm-eq6 c =
-    let a = c.args in
-    let k = a.k in
-    let g = take (cipher_at k.cipher).n (bytes_bits a.g) in
-    rw c.if-algorithm-eq6.true (λ K e. c.dec-then-algorithm-eq6.ensures ∙ (λ i. d'-is k.cipher 6 k.rounds K e refl i g))
-
-pub returns-then-algorithm-eq3 : goal.returns-then-algorithm-eq3
-unfolding algorithm_at backs
-returns-then-algorithm-eq3 c =
-    let z = c in
-    let a = z.args in
-    let k = a.k in
-    let g = take (cipher_at k.cipher).n (bytes_bits a.g) in
-    rw c.if-algorithm-eq3.true
-    (λ K e. c.dec-then-algorithm-eq3.ensures ∙ ap (dec_at k.cipher (words k.rounds.first)) (c.enc.ensures ∙ ap (enc_at k.cipher (words k.rounds.second)) z.dec-z.ensures)
+returns-in-3 c =
+    let k = c.args.k.now in
+    let g = take (cipher_at k.cipher).n (bytes_bits c.args.g) in
+    rw c.in-3.is
+    (λ K e. c.dec-in-3-2.ensures ∙ ap (dec_at k.cipher (words k.rounds.first)) (c.enc.ensures ∙ ap (enc_at k.cipher (words k.rounds.second)) c.dec-in-3.ensures)
     ∙ (λ i. d-is k.cipher 3 k.rounds K e i (k'-is k.cipher 3 k.rounds K e refl i (d-is k.cipher 3 k.rounds K e i g))))
 
-pub returns-then-algorithm-eq5 : goal.returns-then-algorithm-eq5
+pub returns-in-5 : goal.returns-in-5
 unfolding algorithm_at backs blank
-returns-then-algorithm-eq5 c =
-    let z = c in
-    let a = z.args in
-    let k = a.k in
+returns-in-5 c =
+    let k = c.args.k.now in
     let n = (cipher_at k.cipher).n in
     let p = (cipher_at k.cipher).poly in
-    let g = take n (bytes_bits a.g) in
-    let mask = c.mask in
+    let g = take n (bytes_bits c.args.g) in
     let enciphered = c.enc-s.ensures ∙ ap (enc_at k.cipher (words k.rounds.first)) (first-blank k.cipher) in
-    rw c.if-algorithm-eq5.true
-    (λ K e. first-xor n z.dec-z.result mask.result _ c.xor.ensures
-    ∙ (λ i. xor_b (z.dec-z.ensures i) ((mask.ensures ∙ (λ j. pick a.complete (double p (enciphered j)) (double p (double p (enciphered j))))) i))
+    rw c.in-5.is
+    (λ K e. first-xor n c.dec-in-5.result c.mask.result _ c.xor.ensures
+    ∙ (λ i. xor_b (c.dec-in-5.ensures i) ((c.mask.ensures ∙ (λ j. pick c.args.complete (double p (enciphered j)) (double p (double p (enciphered j))))) i))
     ∙ (λ i. let s = k-is k.cipher 5 k.rounds K e i (zeros n) in
-    xor_b (d-is k.cipher 5 k.rounds K e i g) (pick a.complete (double p s) (double p (double p s)))))
+    xor_b (d-is k.cipher 5 k.rounds K e i g) (pick c.args.complete (double p s) (double p (double p s)))))
+
+pub returns-in-6 : goal.returns-in-6
+unfolding algorithm_at backs
+returns-in-6 c =
+    let k = c.args.k.now in
+    rw c.in-6.is (λ K e. c.dec-in-6.ensures ∙ (λ i. d'-is k.cipher 6 k.rounds K e refl i (take (cipher_at k.cipher).n (bytes_bits c.args.g))))
 
 -- the turns exchanged
 exchanged : (b : Bool) (u v : Bits) → pick (not b) u v ≡ pick b v u
@@ -76,22 +59,25 @@ unfolding pick
 exchanged true u v = refl
 exchanged false u v = refl
 
-pub returns-then-algorithm-eq8 : goal.returns-then-algorithm-eq8
+pub returns-in-8 : goal.returns-in-8
 unfolding algorithm_at backs
-returns-then-algorithm-eq8 c =
-    let z = c in
-    let a = z.args in
-    let k = a.k in
-    let g = take (cipher_at k.cipher).n (bytes_bits a.g) in
-    rw c.if-algorithm-eq8.true
-    (λ K e. c.turned.ensures ∙ exchanged a.complete _ _
-    ∙ (λ i. let u = (z.dec-z.ensures ∙ (λ j. d-is k.cipher 8 k.rounds K e j g)) i in pick a.complete (rotl 1 u) (rotr 1 u)))
+returns-in-8 c =
+    let k = c.args.k.now in
+    let g = take (cipher_at k.cipher).n (bytes_bits c.args.g) in
+    rw c.in-8.is
+    (λ K e. c.turned.ensures ∙ exchanged c.args.complete _ _
+    ∙ (λ i. let u = (c.dec-in-8.ensures ∙ (λ j. d-is k.cipher 8 k.rounds K e j g)) i in pick c.args.complete (rotl 1 u) (rotr 1 u)))
 
-pub returns : goal.returns
-returns c K e =
-    let z = c in
-    let a = z.args in
-    let k = a.k in
-    let g = take (cipher_at k.cipher).n (bytes_bits a.g) in
-    z.dec-z.ensures ∙ (λ i. d-is k.cipher k.settings.algorithm k.rounds K e i g)
-    ∙ sym (last-back-at (cipher_at k.cipher) K a.complete g k.settings.algorithm z.if-algorithm-eq2.false c.if-algorithm-eq3.false z.if-algorithm-eq4.false c.if-algorithm-eq5.false z.if-algorithm-eq6.false c.if-algorithm-eq8.false)
+pub returns-in_default : goal.returns-in_default
+returns-in_default c K e =
+    let k = c.args.k.now in
+    let a = k.settings.algorithm in
+    let g = take (cipher_at k.cipher).n (bytes_bits c.args.g) in
+    let n2 : a ≡ 2 → ⊥ = search rules in
+    let n3 : a ≡ 3 → ⊥ = search rules in
+    let n4 : a ≡ 4 → ⊥ = search rules in
+    let n5 : a ≡ 5 → ⊥ = search rules in
+    let n6 : a ≡ 6 → ⊥ = search rules in
+    let n8 : a ≡ 8 → ⊥ = search rules in
+    c.dec-in_default.ensures ∙ (λ i. d-is k.cipher a k.rounds K e i g)
+    ∙ sym (last-back-at (cipher_at k.cipher) K c.args.complete g a n2 n3 n4 n5 n6 n8)

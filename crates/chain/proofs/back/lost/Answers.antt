@@ -45,10 +45,10 @@ counted : (n w j l : ℕ) → 0 < n → w ≡ n → suc j * n ≤ l → suc j �
 counted n w j l pos e h = let m : suc j ≤ l / n = (le-div_iff_mul-le pos).1 h in omega (arith, ap (λ (k : ℕ). l / k) e)
 
 -- the same at the start of the call
-counted-at : (c : Lts.Start Tie.the-claims Reads.Pre Reads.Post) (w : ℕ) → w ≡ width_of c.args.k → suc c.args.number ≤ c.args.bits / w
+counted-at : (c : Lts.Start Tie.the-claims Reads.Pre Reads.Post) (w : ℕ) → w ≡ width_of c.args.k.now → suc c.args.number ≤ c.args.bits / w
 counted-at c w e =
-    let W = width-at c.args.k.cipher in
-    counted (width_of c.args.k) w c.args.number c.args.bits (omega (arith, W)) e c.requires.4
+    let W = width-at c.args.k.now.cipher in
+    counted (width_of c.args.k.now) w c.args.number c.args.bits (omega (arith, W)) e c.requires.3
 
 -- the blocks that follow lie in the rest of the message
 following : (n w j l : ℕ) (s : List ℕ) → Width n → w ≡ n → l ≤ 8 * length s → suc j * n ≤ l
@@ -61,8 +61,8 @@ following n w j l s W e h fits =
     let all : l / w * n ≤ l = omega (arith, ap (λ (k : ℕ). l / k * n) e, div-mul-le_self l n) in
     omega (arith, ap length (take_rest at s) ∙ length-drop at s, end-bytes n w j W e, blocks, all)
 
-behind : (c : Lts.Start Tie.the-claims Reads.Pre Reads.Post) (w : ℕ) → w ≡ width_of c.args.k → (c.args.number + 1) * w / 8 ≤ length c.args.message.now
-behind c w e = omega (arith, end-bytes (width_of c.args.k) w c.args.number (width-at c.args.k.cipher) e, c.requires.3, c.requires.4)
+behind : (c : Lts.Start Tie.the-claims Reads.Pre Reads.Post) (w : ℕ) → w ≡ width_of c.args.k.now → (c.args.number + 1) * w / 8 ≤ length c.args.message.now
+behind c w e = omega (arith, end-bytes (width_of c.args.k.now) w c.args.number (width-at c.args.k.now.cipher) e, c.requires.2, c.requires.3)
 
 tag-long : (c : Lts.Start Tie.the-claims Reads.Pre Reads.Post) → length c.args.tag ≡ 16
 tag-long c = search rules
@@ -78,13 +78,13 @@ pub overflow_mul-end : goal.overflow_mul-end
 overflow_mul-end c =
     let start = c.before.before.before in
     let a = start.args in
-    record { fits = lt_of_le_of_lt (end-le (width_of a.k) c.width-n.result a.number a.bits c.width-n.ensures start.requires.4) start.ranges.bits.fits }
+    record { fits = lt_of_le_of_lt (end-le (width_of a.k.now) c.width-n.result a.number a.bits c.width-n.ensures start.requires.3) start.ranges.bits.fits }
 
 pub feed-hold-requires : goal.feed-hold-requires
 feed-hold-requires c =
     let start = c.before.before.before.before in
     let a = start.args in
-    (start.requires.0, start.requires.1, omega (arith, end-le (width_of a.k) c.before.width-n.result a.number a.bits c.before.width-n.ensures start.requires.4, start.requires.3), λ h. refl)
+    (start.requires.0, omega (arith, end-le (width_of a.k.now) c.before.width-n.result a.number a.bits c.before.width-n.ensures start.requires.3, start.requires.2), λ h. refl)
 
 pub slice_bounds-through-count : goal.slice_bounds-through-count
 slice_bounds-through-count c = let width = c.before.before.before.before.before.before.before in behind width.before.before width.width-n.result width.width-n.ensures
@@ -93,7 +93,7 @@ pub slice_bounds-through-start : goal.slice_bounds-through-start
 slice_bounds-through-start c = let width = c.before.before.before.before.before.before.before in behind width.before.before width.width-n.result width.width-n.ensures
 
 pub nonzero_div-bits : goal.nonzero_div-bits
-nonzero_div-bits c = let width = c.before.before.before.before.before.before.before.before in omega (arith, width-at width.before.before.args.k.cipher, width.width-n.ensures)
+nonzero_div-bits c = let width = c.before.before.before.before.before.before.before.before in omega (arith, width-at width.before.before.args.k.now.cipher, width.width-n.ensures)
 
 pub overflow_sub-bits : goal.overflow_sub-bits
 overflow_sub-bits c = let width = c.before.before.before.before.before.before.before.before in omega (arith, counted-at width.before.before width.width-n.result width.width-n.ensures)
@@ -107,7 +107,7 @@ through-v-requires c =
     let start = width.before.before in
     let a = start.args in
     let w = width.width-n.result in
-    (start.requires.0, following (width_of a.k) w a.number a.bits a.message.now (width-at a.k.cipher) width.width-n.ensures start.requires.3 start.requires.4)
+    following (width_of a.k.now) w a.number a.bits a.message.now (width-at a.k.now.cipher) width.width-n.ensures start.requires.2 start.requires.3
 
 pub returns : goal.returns
 unfolding leftmost wanted_end walked pick
@@ -122,7 +122,7 @@ returns c K e =
     let width = begin.before in
     let start = width.before.before in
     let a = start.args in
-    let k = a.k in
+    let k = a.k.now in
     let p = k.settings.padding in
     let j = a.number in
     let n = width_of k in
@@ -132,19 +132,19 @@ returns c K e =
     let X = bytes_bits a.message.now in
     let x = take a.bits X in
     let t = take n (bytes_bits a.tag) in
-    let long : length x ≡ a.bits = length-take-le a.bits X (omega (arith, start.requires.3, length-bytes_bits a.message.now)) in
+    let long : length x ≡ a.bits = length-take-le a.bits X (omega (arith, start.requires.2, length-bytes_bits a.message.now)) in
     let t-long : length t ≡ n = length-first n a.tag W (tag-long start) in
-    let same : take ((j + 1) * w) X ≡ take (suc j * n) x = ap (λ (i : ℕ). take i X) (end_is n w j we) ∙ sym (take-take (suc j * n) a.bits X start.requires.4) in
-    let started = before-begun k.cipher k.settings.algorithm p K a.bits j x long start.requires.4 (take ((j + 1) * w) X) same in
-    let value = before-value k.cipher k.settings.algorithm p K a.bits j x long start.requires.4 (take ((j + 1) * w) X) same _ _ (begin.begin-begun.ensures K e) (fed.feed-hold.ensures K e) in
+    let same : take ((j + 1) * w) X ≡ take (suc j * n) x = ap (λ (i : ℕ). take i X) (end_is n w j we) ∙ sym (take-take (suc j * n) a.bits X start.requires.3) in
+    let started = before-begun k.cipher k.settings.algorithm p K a.bits j x long start.requires.3 (take ((j + 1) * w) X) same in
+    let value = before-value k.cipher k.settings.algorithm p K a.bits j x long start.requires.3 (take ((j + 1) * w) X) same _ _ (begin.begin-begun.ensures K e) (fed.feed-hold.ensures K e) in
     let test = begun.begun_at.ensures ∙ ap (begun_at n p) (end_is n w j we) ∙ started in
     let bytes = ap bytes_bits (take_rest ((j + 1) * w / 8) a.message.now) ∙ bytes_bits-drop ((j + 1) * w / 8) a.message.now ∙ ap (λ (i : ℕ). drop i X) (end-bytes n w j W we) in
     let back =
     through.through-v.ensures
     ∙ (λ i. unchained n ((ap (enc_at k.cipher) keys.backwards-back.ensures ∙ enc-backwards k.cipher (words k.rounds.first) ∙ inner-back-is k.cipher k.settings.algorithm k.rounds K e) i) (a.bits / we i - j - 1) (end.end_back-last.ensures K e i) (bytes i)) in
-    let aim = unchained-aim k.cipher k.settings.algorithm p K a.bits j x long start.requires.4 t t-long X _ refl back in
+    let aim = unchained-aim k.cipher k.settings.algorithm p K a.bits j x long start.requires.3 t t-long X _ refl back in
     c.leftmost.ensures
     ∙ ap filled_block
     (ap (λ (i : ℕ). take i (bytes_bits c.before.xor.result)) we ∙ first-xor n first_back.first_back-b.result fed.feed-hold.result.value _ c.before.xor.ensures
-    ∙ lost-is k.cipher k.settings.algorithm p K a.bits j x long start.requires.4 t t-long start.requires.5 _ _
+    ∙ lost-is k.cipher k.settings.algorithm p K a.bits j x long start.requires.3 t t-long start.requires.4 _ _
     (λ y ly cy. first_back.first_back-b.ensures K e y ly cy ∙ ap (λ (b : Bool). step_back (backs_of k K) b y) test) _ aim value)

@@ -1,9 +1,0 @@
--- `poly` meets its contract: SM4 has it.
--- Assumes nothing.
-use mathlib.Core.Path.{refl}
-use Rattle.cipher.specs.Ciphers.{cipher_at}
-use Rattle.cipher.proofs.poly.Goals as goal
-
-pub returns : goal.returns
-unfolding cipher_at
-returns c = refl

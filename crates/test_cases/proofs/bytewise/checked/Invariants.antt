@@ -1,6 +1,0 @@
--- `checked` ends: fewer bits are left each time.
--- Assumes nothing.
-use Rattle.test_cases.proofs.bytewise.checked.Given as goal
-
-abbrev pub decreases-loop-left : goal.decreases-loop-left
-decreases-loop-left l = l.left
