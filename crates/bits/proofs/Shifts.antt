@@ -5,10 +5,10 @@ use mathlib.Core.Path.{◌≡◌, refl, sym, ap, ap₂, ◌∙◌, subst}
 use mathlib.Core.Bool.{Bool, true, false}
 use mathlib.Core.List.{List, [], ◌∷◌, ◌++◌, flat_map, append-nil}
 use Prim.Native.Nat.{ℕ, zero, suc, ◌+◌, ◌-◌, ◌*◌, ◌/◌, ◌%◌, ◌^◌, ◌≤◌, ◌<◌}
-use native.Mathlib.Nat.{add-zero, add_comm, mul-mod_left, mul-one, sub-zero, mul_assoc, add-mul, mod_self, mod-eq_of_lt, div-one, div-eq_of_lt, pow-suc}
+use native.Mathlib.Nat.{add-zero, add_comm, mul-mod_left, sub-zero, mul_assoc, add-mul, div-one, div-eq_of_lt, pow-suc}
 use native.Mathlib.Omega.{arith}
 use borrow.Author.Tests.{ltb-true, ltb-false}
-use lib.Bits.{bit_or, or_shifted, or_self, or_zero_l}
+use lib.Bits.{bit_or, or_shifted, or_zero_l}
 use lib.Dec.{ltb}
 use lib.Pow.{shl-shr, pow-add, shr_lt, mod-pow-add}
 use lib.ListN.{length, take, drop, get_or, drop_of_length-le}
@@ -64,16 +64,9 @@ funnel-unbounded w s x y some hy = go (ltb s w) (ltb (w - s) w) refl refl
     go false false e f = absurd (omega (arith, ltb-false s w e, ltb-false (w - s) w f))
 
 -- a rotation is a number beside itself
-pub rotl-shifts : (w r x : ℕ) → r < w → x < 2 ^ w → bits_n w (bit_or (x * 2 ^ r % 2 ^ w) (x / 2 ^ ((w - r) % w))) ≡ rotl r (bits_n w x)
+pub rotl-shifts : (w r x : ℕ) → r ≤ w → x < 2 ^ w → bits_n w (bit_or (x * 2 ^ r % 2 ^ w) (x / 2 ^ (w - r))) ≡ rotl r (bits_n w x)
 unfolding rotl
-rotl-shifts w zero x hr h =
-    ap (bits_n w)
-    (ap₂ (λ (m n : ℕ). bit_or m (x / 2 ^ n)) (ap (λ (n : ℕ). n % 2 ^ w) (mul-one x) ∙ mod-eq_of_lt h) (ap (λ (n : ℕ). n % w) (sub-zero w) ∙ mod_self w)
-    ∙ ap (bit_or x) (div-one x) ∙ or_self x)
-    ∙ sym (append-nil (bits_n w x))
-rotl-shifts w (suc r) x hr h =
-    let some : w - suc r < w = omega arith in
-    ap (λ (n : ℕ). bits_n w (bit_or (x * 2 ^ suc r % 2 ^ w) (x / 2 ^ n))) (mod-eq_of_lt some) ∙ funnel-shifts w (suc r) x x (omega arith) h
+rotl-shifts w r x hr h = funnel-shifts w r x x hr h
 
 -- ---- the bytes of a number, the highest first
 

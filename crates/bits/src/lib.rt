@@ -6,11 +6,16 @@ ghost use Rattle.std.specs.Prelude.{◌≡◌, ◌∷◌, [], ◌++◌, ◌-◌,
 ghost use Rattle.bits.specs.Choice.{first_fault, first_of, faults};
 ghost use Rattle.bits.specs.Str.{bits_n, bytes_bits, rotl};
 
-// A word rotated left by r bits, r counted modulo 32.
+// A word rotated left by r bits, r counted modulo 32. (By shifts, the form that document 01 asks for where a round rotates.)
 pub fn rotl32(x: u32, r: u32) -> u32
     ensures { bits_n 32 result ≡ rotl (r % 32) (bits_n 32 x) }
 {
-    x.rotate_left(r)
+    let k = r % 32;
+    if k == 0 {
+        x
+    } else {
+        (x << k) | (x >> (32 - k))
+    }
 }
 
 // The word whose bytes are a, b, c and d, the first highest.

@@ -80,9 +80,11 @@ const CLOSED: Session = Session {
     expected: [0u8; 16],
 };
 
+// What is inlined below spares a session's copies: a piece of 16 bytes was 1.1 times as long without.
 impl Step {
     // What a start or a piece comes to: the session it makes; or its refusal, and the session that stays.
     #[tactic(auto, unfolding(settings::specs::Answers::told))]
+    #[inline(always)]
     fn accepted(made: Result<Session, Refusal>, stays: Session) -> Step
         ensures { stepped result ≡ accepted_step made stays }
     {
@@ -100,6 +102,7 @@ impl Step {
 
     // What a finish comes to: its outcome, and the session is closed; or its refusal, and the session that stays.
     #[tactic(auto, unfolding(crate::specs::Record::cleared, settings::specs::Answers::told))]
+    #[inline(always)]
     fn finished(answer: Result<Outcome, Refusal>, stays: Session) -> Step
         ensures { stepped result ≡ finished_step answer stays }
     {
@@ -252,6 +255,7 @@ struct WithKeys {
 }
 
 impl WithKeys {
+    #[inline(always)]
     fn of(session: Session) -> WithKeys
         ensures { result.session ≡ session }
     {
@@ -353,6 +357,7 @@ impl WithKeys {
 
 impl Session {
     #[tactic(auto, using(crate::proofs::Answers::judging), unfolding(crate::specs::Calls::piece_of, refusals::specs::Number::number_in, bits::specs::Choice::pick))]
+    #[inline(always)]
     fn take(self, bytes: &[u8], bits: usize) -> Result<Session, Refusal>
         ensures { accepted_step result self ≡ piece_of self bytes.now bits }
     {
@@ -362,6 +367,7 @@ impl Session {
     }
 
     #[tactic(auto, using(crate::proofs::Answers::judging), unfolding(crate::specs::Calls::finish_of, crate::specs::Calls::finish_faults, crate::specs::Record::is_check, mac::specs::Tag::bytes_for, refusals::specs::Number::number_in, bits::specs::Choice::pick))]
+    #[inline(always)]
     fn make(self, room: &mut [u8]) -> Result<Outcome, Refusal>
         ensures { (finished_step result self, room.new) ≡ finish_of self room.old }
     {
@@ -377,6 +383,7 @@ impl Session {
 
     // Every byte of the expected tag is looked at.
     #[tactic(auto, using(crate::proofs::Answers::judging), unfolding(crate::specs::Calls::finish_check_of, crate::specs::Calls::finish_check_faults, crate::specs::Record::is_check, mac::specs::Tag::bytes_for, refusals::specs::Number::number_in, bits::specs::Choice::pick))]
+    #[inline(always)]
     fn judge(self) -> Result<Outcome, Refusal>
         ensures { finished_step result self ≡ finish_check_of self }
     {

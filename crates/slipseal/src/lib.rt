@@ -297,15 +297,15 @@ impl From<session::Step> for Step {
 
 // The answer with the session handed on; in a refusal with the struct that came.
 #[tactic(auto, unfolding(crate::specs::Border::handed_back, crate::specs::Border::handed_out, crate::specs::Border::told_of, bits::specs::Choice::pick, settings::specs::Answers::told, settings::specs::Answers::number_of))]
+#[inline(always)]
 fn handed_back(came: Session, step: session::Step) -> Step
     ensures { result ≡ handed_back came (stepped step) }
 {
-    let out = Step::from(step);
     match step.answer {
-        Ok(_) => out,
+        Ok(_) => step.into(),
         Err(_) => Step {
+            answer: step.answer.into(),
             session: came,
-            ..out
         },
     }
 }
