@@ -9,7 +9,9 @@ use lib.Dec.{eqb}
 use lib.ListN.{length, drop, get_or}
 use lib.Seq.{drop-cons}
 use borrow.Author.Tests.{eqb-false}
-use Rattle.bits.specs.Choice.{pick, Fault, ◌given◌, first_of, one_of, faults}
+use Rattle.std.proofs.Common.{slice_index_or, Err}
+use Rattle.std.proofs.lemmas.List.{at_drop_more}
+use Rattle.bits.specs.Choice.{pick, Fault, ◌given◌, first_of, one_of, faults, first_fault}
 
 -- the fault of number n is there, and none before it
 pub data Given (n : ℕ) : List Fault → Type 0 where
@@ -125,6 +127,12 @@ unfolding faults first_of
 first-at ns bs i h l =
     let next : suc i ≡ i + 1 = omega arith in
     ap₂ (λ (xs : List ℕ) (ys : List Bool). first_of (faults xs ys)) (drop-cons ns i 0 h ∙ ap (λ (k : ℕ). get_or ns i 0 ∷ drop k ns) next) (drop-cons bs i false l ∙ ap (λ (k : ℕ). get_or bs i false ∷ drop k bs) next)
+
+-- the same of tests with what they refuse with, as the code has them: the test there, or one after it
+pub fault-at : {A : Type 0} (ts : List (Bool × A)) (i : ℕ) (t : Bool × A) → i < length ts → t ≡ slice_index_or ts i t
+    → first_fault (drop i ts) ≡ pick t.0 (Err t.1) (first_fault (drop (i + 1) ts))
+unfolding first_fault
+fault-at ts i t h e = at_drop_more first_fault ts i t h ∙ ap (λ u. first_fault (u ∷ drop (i + 1) ts)) (sym e)
 
 pub faults-unnumbered : (bs : List Bool) → first_of (faults [] bs) ≡ 0
 unfolding faults first_of

@@ -43,6 +43,7 @@ pub struct Hold {
 
 // A key's round keys where they are used, else zeros.
 fn expanded_where(t: &cipher::Table, cipher: usize, on: bool, key: [u8; 16]) -> [u32; 32]
+    requires { t.now ≡ table_at cipher }
     ensures { words result ≡ pick on (round_keys_at cipher (take (cipher_at cipher).key_width (bytes_bits key))) (words (replicate 32 0)) }
 {
     if on {
@@ -54,6 +55,7 @@ fn expanded_where(t: &cipher::Table, cipher: usize, on: bool, key: [u8; 16]) -> 
 
 // The round keys of the keys that an algorithm uses.
 pub fn expand(t: &cipher::Table, cipher: usize, algorithm: usize, keys: keys::KeyBlocks) -> Rounds
+    requires { t.now ≡ table_at cipher }
     ensures { rounds_bits result ≡ rounds_of cipher algorithm (key_blocks cipher keys) }
 {
     let row = mac::row_of(algorithm);

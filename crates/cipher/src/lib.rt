@@ -53,6 +53,7 @@ pub fn wide(cipher: usize) -> Wide
 // The round keys of a key: its first bits, as many as a key has.
 #[tactic(auto, using(crate::proofs::Laws::whole_blocks), unfolding(crate::specs::Ciphers::cipher_at, crate::specs::Ciphers::round_keys_at))]
 pub fn schedule(t: &Table, cipher: usize, key: [u8; 16]) -> [u32; 32]
+    requires { t.now ≡ table_at cipher }
     ensures { words result ≡ round_keys_at cipher (take (cipher_at cipher).key_width (bytes_bits key)) }
 {
     sm4::schedule(t, key)
@@ -69,6 +70,7 @@ pub fn backwards(cipher: usize, rk: [u32; 32]) -> [u32; 32]
 // One block enciphered.
 #[tactic(auto, using(crate::proofs::Laws::whole_blocks), unfolding(crate::specs::Ciphers::cipher_at, crate::specs::Ciphers::enc_at))]
 pub fn encrypt(t: &Table, cipher: usize, rk: [u32; 32], block: [u8; 16]) -> [u8; 16]
+    requires { t.now ≡ table_at cipher }
     ensures { bytes_bits result ≡ filled 128 (enc_at cipher (words rk) (take (cipher_at cipher).n (bytes_bits block))) }
 {
     sm4::encrypt(t, rk, block)
@@ -77,6 +79,7 @@ pub fn encrypt(t: &Table, cipher: usize, rk: [u32; 32], block: [u8; 16]) -> [u8;
 // One block deciphered.
 #[tactic(auto, using(crate::proofs::Laws::whole_blocks), unfolding(crate::specs::Ciphers::cipher_at, crate::specs::Ciphers::dec_at))]
 pub fn decrypt(t: &Table, cipher: usize, rk: [u32; 32], block: [u8; 16]) -> [u8; 16]
+    requires { t.now ≡ table_at cipher }
     ensures { bytes_bits result ≡ filled 128 (dec_at cipher (words rk) (take (cipher_at cipher).n (bytes_bits block))) }
 {
     sm4::decrypt(t, rk, block)
@@ -110,7 +113,7 @@ pub fn absorb(
     h: [u32; 4],
     part: &[u8],
 ) -> [u32; 4]
-    requires { 8 * length part.now ≡ (cipher_at cipher).n }
+    requires { (t.now ≡ table_at cipher) × (w.now ≡ wide_at cipher) × (8 * length part.now ≡ (cipher_at cipher).n) }
     ensures { words_bits result ≡ filled 128 (enc_at cipher (words rk) (xor_b (bytes_bits part.now) (take (cipher_at cipher).n (words_bits h)))) }
 {
     sm4::absorb(t, w, rk, h, part)

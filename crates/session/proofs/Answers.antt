@@ -3,7 +3,8 @@
 -- (`keyed-for`); the tag of an open record has m bits, so that the first bytes of a block that begins with it are its bytes (`room-is`,
 -- `judged-is`); the calls counted are those of the definition's list (`calls-listed`).
 -- Assumes nothing.
-use Rattle.std.proofs.Common.{◌≡◌, refl, sym, ap, ap₂, ◌∙◌, Bool, true, false, List, [], ◌∷◌, ◌++◌, ℕ, ◌+◌, ◌≤◌, arith, eqb, length, take, drop}
+use Rattle.std.proofs.Common.{◌≡◌, refl, sym, ap, ap₂, ◌∙◌, Bool, true, false, not, List, [], ◌∷◌, ◌++◌, ℕ, ◌+◌, ◌≤◌, arith, eqb, length, take, drop, Result, Ok, Err}
+use Rattle.std.specs.Result.{is_err}
 use Rattle.bits.specs.Choice.{pick, Fault, ◌given◌, first_of}
 use Rattle.bits.specs.Str.{bytes_bits, zeros, same_b}
 use Rattle.block.specs.Block.{storage, filled_block}
@@ -18,7 +19,9 @@ use Rattle.cipher.specs.Ciphers.{cipher_at}
 use Rattle.cipher.proofs.Laws.{sm4-width, width-at, lawful-at}
 use Rattle.mac.proofs.TagBytes.{take-fits, tag_bytes-block, tag_bytes-fit}
 use Rattle.mac.proofs.Derive.{from-count}
-use Rattle.refusals.proofs.Number.{refusal-numbered}
+use Rattle.refusals.specs.Number.{number_in}
+use Rattle.refusals.specs.declared.Refusal.{Refusal}
+use Rattle.refusals.proofs.Number.{refusing, refusal-numbered}
 use Rattle.settings.specs.InUse.{in_use, agreement_faults}
 use Rattle.settings.specs.Faults.{settings_refusal}
 use Rattle.settings.specs.Answers.{Told, Yes, No, number_of, settings_of}
@@ -44,6 +47,12 @@ of-step r = r.answer
 -- what is read of two choices, where it is read alike
 pub chosen-alike : {R T : Type 0} (f : R → T) (b : Bool) {x x' y y' : R} → f x ≡ f x' → f y ≡ f y' → f (pick b x y) ≡ f (pick b x' y')
 chosen-alike f b {x} {x'} {y} {y'} e h = pick-ap f b x y ∙ ap₂ (pick b) e h ∙ sym (pick-ap f b x' y')
+
+-- a judgement is an error exactly where its number is not 0
+pub told_by_number : (r : Result (Unit {0}) Refusal) → is_err r ≡ not (eqb (number_in r) 0)
+unfolding number_in
+told_by_number (Ok x) = refl
+told_by_number (Err r) = sym (ap not (refusing r refl))
 
 -- ---- the order of a start, and of the start of a check
 

@@ -7,7 +7,7 @@ ghost use Rattle.std.specs.Prelude.{◌≡◌, false, ◌+◌, ◌*◌, ◌%◌,
 ghost use Rattle.bits.specs.Choice.{first_of};
 ghost use Rattle.bits.specs.Str.{bytes_bits};
 ghost use Rattle.block.specs.Block.{storage, filled_block};
-ghost use Rattle.cipher.specs.Ciphers.{cipher_at};
+ghost use Rattle.cipher.specs.Ciphers.{cipher_at, table_at};
 ghost use Rattle.mac.specs.Tag.{bits_of};
 ghost use Rattle.keys.specs.Given.{key_bits, Unpacks};
 ghost use Rattle.refusals.specs.Number.{number_in};
@@ -168,6 +168,7 @@ impl Session {
 
 // What the heart works under: SM4, the settings of an agreement, and the round keys of keys in use.
 fn keyed<'a>(t: &'a cipher::Table, agreement: Agreement, keys: KeyBlocks) -> Keyed<'a>
+    requires { t.now ≡ table_at 1 }
     ensures cipher { result.cipher ≡ 1 }
     ensures settings { result.settings ≡ settings_of agreement }
     ensures rounds { rounds_bits result.rounds ≡ rounds_of 1 agreement.algorithm (key_bits keys) }
@@ -274,17 +275,22 @@ impl WithKeys {
     }
 
     // Whether the record counts as closed, for whatever purpose and with whatever tag expected.
-    #[tactic(auto, unfolding(crate::specs::Record::counts_closed, crate::specs::Record::closed_faults, bits::specs::Choice::first_of, bits::specs::Choice::pick))]
     fn counts_closed(&self) -> bool
         ensures { result ≡ counts_closed self.now.session }
     {
         let s = self.session;
-        s.phase_unfit()
-            || self.settings_unsound()
-            || message::too_many_bits(s.total)
-            || declared_too_long(s.agreement.padding, s.declared)
-            || s.passes_declared(0)
-            || s.stray_bit()
+        bits::first_fault(&[
+            (s.phase_unfit(), Refusal::Closed),
+            (self.settings_unsound(), Refusal::Closed),
+            (message::too_many_bits(s.total), Refusal::Closed),
+            (
+                declared_too_long(s.agreement.padding, s.declared),
+                Refusal::Closed,
+            ),
+            (s.passes_declared(0), Refusal::Closed),
+            (s.stray_bit(), Refusal::Closed),
+        ])
+        .is_err()
     }
 
     fn piece_refusal(&self, length: usize, bits: usize) -> Result<(), Refusal>

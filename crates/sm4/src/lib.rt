@@ -260,7 +260,7 @@ pub fn decrypt(t: &Table, rk: [u32; 32], block: [u8; 16]) -> [u8; 16]
 // Byte j of the constant CKi, the highest counted as 0.
 #[tactic(auto, unfolding(crate::specs::Constants::ck))]
 fn constant_byte(i: usize, j: usize) -> u8
-    requires { (i ≤ 32) × (j < 4) }
+    requires { (i < 32) × (j < 4) }
     ensures { result ≡ ck i j }
 {
     (7 * (4 * i + j) % 256) as u8
@@ -269,7 +269,7 @@ fn constant_byte(i: usize, j: usize) -> u8
 // The constant CKi of round i.
 #[tactic(auto, unfolding(crate::specs::Constants::CK))]
 fn constant(i: usize) -> u32
-    requires { i ≤ 32 }
+    requires { i < 32 }
     ensures { bits_n 32 result ≡ CK i }
 {
     bits::word(
@@ -298,7 +298,7 @@ pub fn schedule(t: &Table, key: [u8; 16]) -> [u32; 32]
     let mut s = Split::new(key_start(key), constant(0));
     let mut r = [0u32; 32];
     for (i, word) in r.iter_mut().enumerate() {
-        s = s.step(&ForKeys(t), constant(i + 1));
+        s = s.step(&ForKeys(t), constant((i + 1) % 32));
         *word = s.newest();
     }
     r

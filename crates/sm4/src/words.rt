@@ -5,7 +5,7 @@ use std::marker::Model;
 
 // Two tables, one after the other: entry x of the first is L, and of the second L', of the word whose highest byte is the byte
 // table's entry x, and whose other bytes are zero.
-#[derive(Drop)]
+#[derive(Clone, Copy, PartialEq, Eq)]
 pub struct Table(pub [u32; 512]);
 
 impl Model for Table {
@@ -16,12 +16,14 @@ impl Model for Table {
 
     ghost view = { λ t. t.0 };
 
+    ghost inverse = { λ s. record { 0 = s } };
+
     ghost invariant = { λ t. t.0 ≡ table };
 }
 
 // Three tables, one after the other: entry x of the first, second and third is L of the word whose second, third and fourth byte is the
 // byte table's entry x, and whose other bytes are zero.
-#[derive(Drop)]
+#[derive(Clone, Copy, PartialEq, Eq)]
 pub struct Wide(pub [u32; 768]);
 
 impl Model for Wide {
@@ -31,6 +33,8 @@ impl Model for Wide {
     ghost Value = { List ℕ };
 
     ghost view = { λ w. w.0 };
+
+    ghost inverse = { λ s. record { 0 = s } };
 
     ghost invariant = { λ w. w.0 ≡ wide };
 }

@@ -54,7 +54,7 @@ pub absorb-next-requires : goal.absorb-next-requires
 absorb-next-requires c =
     let a = c.args in
     let here = in-slice a.k.now.cipher _ a.backwards a.blocks (a.blocks - c.loop-i.i) _ a.bytes.now c.width-size.ensures c.next_block.ensures (omega arith) (omega arith) c.requires in
-    part-long (width_of a.k.now) (c.width-size.result / 8) (whole a.k.now.cipher c.width-size.result c.width-size.ensures) c.next_block.result a.bytes.now here
+    (a.k.now.lent, c.wide-w.ensures, part-long (width_of a.k.now) (c.width-size.result / 8) (whole a.k.now.cipher c.width-size.result c.width-size.ensures) c.next_block.result a.bytes.now here)
 
 pub loop-i-preserved : goal.loop-i-preserved
 loop-i-preserved c =

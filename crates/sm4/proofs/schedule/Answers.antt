@@ -7,7 +7,7 @@ use native.Mathlib.Omega.{arith}
 use lib.Seq.{take_all}
 use borrow.Author.Rules.{rules}
 use Rattle.bits.specs.Str.{words}
-use Rattle.sm4.specs.Constants.{fk, CKs}
+use Rattle.sm4.specs.Constants.{fk, CK, CKs}
 use Rattle.sm4.specs.Cipher.{T', made, round_keys}
 use Rattle.sm4.proofs.Walk.{walk_start, walk-on, made-on, length-CKs, CK-at}
 use Rattle.sm4.proofs.schedule.Goals as goal
@@ -25,7 +25,7 @@ loop-i-preserved c =
     let l = c.loop-i in
     let ks = CKs 32 0 in
     let s₀ = c.new-s.result in
-    let key = λ (h : l.i + 1 < 32). c.constant-in-loop-i.ensures ∙ CK-at (l.i + 1) h in (
+    let key = λ (h : l.i + 1 < 32). c.constant-in-loop-i.ensures ∙ ap CK (omega (arith, h)) ∙ CK-at (l.i + 1) h in (
       walk-on T' ks s₀ l.s _ l.i l.invariant.0 (omega arith) _ key c.step-s.ensures,
       search rules,
       made-on T' ks s₀ l.s _ l.i l.invariant.0 (omega arith) _ key c.step-s.ensures _ l.word-items (omega arith) c.newest.ensures l.invariant.2,

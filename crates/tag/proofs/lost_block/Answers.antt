@@ -1,15 +1,17 @@
 -- `lost_block` meets its contract: what `chain` works out, at the round keys of the keys.
 -- Assumes nothing.
-use Rattle.std.proofs.Common.{rules, List, ℕ, take, ap, ap₂, ◌∙◌}
+use Rattle.std.proofs.Common.{rules, List, ℕ, suc, ◌*◌, ◌≤◌, take, sym, ap, ap₂, ◌∙◌}
+use mathlib.Core.Path.{subst, subst₂}
 use native.Mathlib.Omega.{arith}
 use Rattle.bits.specs.Str.{Bits, bytes_bits}
 use Rattle.block.specs.Block.{filled_block}
 use Rattle.cipher.specs.Ciphers.{cipher_at}
 use Rattle.cipher.proofs.Laws.{sm4-key}
-use Rattle.mac.specs.Padding.{method_at}
-use Rattle.mac.specs.Algorithm.{algorithm_at, Keys}
+use Rattle.mac.specs.Padding.{method_at, block_count}
+use Rattle.mac.specs.Algorithm.{algorithm_at, row, Keys}
 use Rattle.mac.specs.Lost.{lost_block}
 use Rattle.mac.specs.Tag.{bits_of, bytes_for}
+use Rattle.settings.specs.declared.Settings.{Settings}
 use Rattle.chain.specs.Rounds.{key_blocks}
 use Rattle.chain.proofs.Rows.{whole-keys, keyed-at}
 use Rattle.tag.specs.Restore.{lost_at}
@@ -19,7 +21,14 @@ use Rattle.tag.proofs.lost_block.Goals as goal
 pub lost-requires : goal.lost-requires
 unfolding bytes_for
 lost-requires c =
-    ((key_blocks 1 c.args.keys, keyed-at c.new-k.result _ c.new-k.ensures), c.requires.0, omega (arith, c.requires.1), rw c.new-k.ensures.1 c.requires.3, rw (c.new-k.ensures.1, c.new-k.ensures.2) c.requires.4)
+    let cipher = sym c.new-k.ensures.1 in
+    let under = sym c.new-k.ensures.2 in (
+      (key_blocks 1 c.args.keys, keyed-at c.new-k.result _ c.new-k.ensures),
+      c.requires.0,
+      omega (arith, c.requires.1),
+      subst (λ (n : ℕ). suc c.args.number * (cipher_at n).n ≤ c.args.bits) cipher c.requires.3,
+      subst₂ (λ (n : ℕ) (S : Settings). (row (algorithm_at S.algorithm)).least ≤ block_count (method_at S.padding) (cipher_at n).n c.args.bits) cipher under c.requires.4,
+    )
 
 pub returns : goal.returns
 unfolding lost_at bits_of
