@@ -199,10 +199,18 @@ pub fn day(field: &[u8]) -> usize
     two_digits(field, 9)
 }
 
-// As 2026-11-04.
+// As 2026-11-04. Each digit of month and day is a piece of its own.
 impl fmt::Display for Date {
     fn fmt<W: fmt::Write>(&self, f: &mut fmt::Formatter<W>) -> fmt::Result {
-        write!(f, "{}-{:02}-{:02}", self.year, self.month, self.day)
+        let Date { year, month, day } = *self;
+        write!(
+            f,
+            "{year}-{}{}-{}{}",
+            month / 10,
+            month % 10,
+            day / 10,
+            day % 10
+        )
     }
 }
 

@@ -14,7 +14,7 @@
 //     4096   the file's name
 //     4096   its copy in the call that opens it
 //     8192   the reader of standard input, though nothing is kept in it
-//     1048   a text as it is printed, 1024, and the digits of a number in it, 24
+//       24   the digits of a number as it is printed
 //      256   a read of the typed keys
 //       65   the algorithm, the padding or M
 //       34   the tag's digits
@@ -23,7 +23,7 @@
 //       16   a word alone, or the word master, and one that is only counted
 //        1   for a read of no bytes
 //    -----
-//    50672   bytes in all
+//    49648   bytes in all
 use crate::arguments::Words;
 use crate::faults::{Attempt, Fault};
 use crate::words::Usage;
@@ -36,16 +36,18 @@ pub struct Certcheck;
 
 impl Program for Certcheck {
     const USAGE: Usage = Usage {
-        words: "certcheck FILE TAG ALGORITHM PADDING M",
+        words: "certcheck FILE TAG ALGORITHM PADDING M\n",
         what: "    checks the certificate in the file under its tag, in hex digits; the keys are hex
     digits on standard input
     the file is read to its end, and may be a pipe, such as /dev/fd/3, unless the padding is 3
     as in: certcheck certificate D34E754F50B55B4C 5 4 64 (the three numbers as agreed with
     the supplier and kept on file, never as the certificate names them)
 ",
+        words_of_master: "certcheck FILE TAG ALGORITHM PADDING M master\n",
         more: "",
     };
 
+    #[inline(always)]
     fn try_answer(
         rt: &(impl Files + Print),
         typed: &mut impl Read,

@@ -24,14 +24,33 @@ pub(crate) fn check(
     // a padding is the number that was agreed
     if agreement.padding == 3 {
         let mut file = reads::open(rt, name)?;
-        let bits = size(&mut file)?.saturating_mul(8);
-        let begun = taken(session::start_check(agreement, keys, bits, tag))?;
-        judge(rt, &mut file, begun)
+        say_answered(rt, judge_sized(rt, &mut file, agreement, keys, tag));
     } else {
         let begun = taken(session::start_check(agreement, keys, 0, tag))?;
         let mut file = reads::open(rt, name)?;
-        judge(rt, &mut file, begun)
+        say_answered(rt, judge(rt, &mut file, begun));
     }
+    Ok(())
+}
+
+// Says why there is no answer, while the file is open.
+fn say_answered(rt: &impl Print, answered: Result<(), Fault>) {
+    if let Err(fault) = answered {
+        say(rt, fault);
+    }
+}
+
+// From the file's size to the answer.
+fn judge_sized(
+    rt: &impl Print,
+    file: &mut (impl Read + Seek),
+    agreement: Agreement,
+    keys: &[u8],
+    tag: &[u8],
+) -> Result<(), Fault> {
+    let bits = size(file)?.saturating_mul(8);
+    let begun = taken(session::start_check(agreement, keys, bits, tag))?;
+    judge(rt, file, begun)
 }
 
 // The session after a step that was not refused.
@@ -82,14 +101,14 @@ fn judge(rt: &impl Print, file: &mut impl Read, begun: Session) -> Result<(), Fa
 fn say_judged(rt: &impl Print, s: Session) -> Result<(), Fault> {
     let bits = s.total;
     let (judged, calls) = match s.finish_check().answer? {
-        Outcome::Yes(calls) => ("accepted", calls),
-        Outcome::No(calls) => ("rejected: the tag is not this file's", calls),
+        Outcome::Yes(calls) => ("accepted\n", calls),
+        Outcome::No(calls) => ("rejected: the tag is not this file's\n", calls),
         // No finish of a check comes to these.
         Outcome::Accepted | Outcome::Made(_) => return Ok(()),
     };
     say(
         rt,
-        format_args!("{judged}\nbits: {bits}\ncipher calls: {calls}\n"),
+        format_args!("{judged}bits: {bits}\ncipher calls: {calls}\n"),
     );
     Ok(())
 }

@@ -1,4 +1,4 @@
-// Why a program gives no answer, in the words that it prints.
+// Why a program gives no answer, in the words that it prints, as whole lines.
 
 use refusals::Refusal;
 use std::env::FillError;
@@ -18,9 +18,9 @@ pub enum Fault {
 impl fmt::Display for Fault {
     fn fmt<W: fmt::Write>(&self, f: &mut fmt::Formatter<W>) -> fmt::Result {
         match self {
-            Fault::Misused(misuse) => write!(f, "error: {misuse}"),
-            Fault::Failed(failure) => write!(f, "error: {failure}"),
-            Fault::Refused(refusal) => write!(f, "refused {}: {refusal}", refusal.number()),
+            Fault::Misused(misuse) => write!(f, "{misuse}"),
+            Fault::Failed(failure) => write!(f, "{failure}"),
+            Fault::Refused(refusal) => writeln!(f, "refused {}: {refusal}", refusal.number()),
         }
     }
 }
@@ -63,16 +63,18 @@ pub enum Misuse {
 impl fmt::Display for Misuse {
     fn fmt<W: fmt::Write>(&self, f: &mut fmt::Formatter<W>) -> fmt::Result {
         match self {
-            Misuse::Count(4) => write!(f, "give four arguments"),
-            Misuse::Count(5) => write!(f, "give five arguments"),
-            Misuse::Count(_) => write!(f, "give seven arguments"),
-            Misuse::NoName => write!(f, "the file's name is empty"),
-            Misuse::NoDate => write!(f, "the date is not written as 2026-11-04"),
-            Misuse::NoNumber(what) => write!(f, "{what} is not written in 1 to 64 digits"),
-            Misuse::NoMaster => write!(f, "the word after M is not master"),
-            Misuse::NoTag(NoBytes::Odd) => write!(f, "the tag has an odd number of hex digits"),
+            Misuse::Count(4) => writeln!(f, "error: give four arguments"),
+            Misuse::Count(5) => writeln!(f, "error: give five arguments"),
+            Misuse::Count(_) => writeln!(f, "error: give seven arguments"),
+            Misuse::NoName => writeln!(f, "error: the file's name is empty"),
+            Misuse::NoDate => writeln!(f, "error: the date is not written as 2026-11-04"),
+            Misuse::NoNumber(what) => writeln!(f, "error: {what} is not written in 1 to 64 digits"),
+            Misuse::NoMaster => writeln!(f, "error: the word after M is not master"),
+            Misuse::NoTag(NoBytes::Odd) => {
+                writeln!(f, "error: the tag has an odd number of hex digits")
+            }
             Misuse::NoTag(NoBytes::Strange) => {
-                write!(f, "the tag holds a character that is no hex digit")
+                writeln!(f, "error: the tag holds a character that is no hex digit")
             }
         }
     }
@@ -120,19 +122,21 @@ pub enum Failure {
 impl fmt::Display for Failure {
     fn fmt<W: fmt::Write>(&self, f: &mut fmt::Formatter<W>) -> fmt::Result {
         match self {
-            Failure::NoKeys(NoBytes::Odd) => write!(f, "the keys have an odd number of hex digits"),
-            Failure::NoKeys(NoBytes::Strange) => {
-                write!(f, "the keys hold a character that is no hex digit")
+            Failure::NoKeys(NoBytes::Odd) => {
+                writeln!(f, "error: the keys have an odd number of hex digits")
             }
-            Failure::NoSize => write!(
+            Failure::NoKeys(NoBytes::Strange) => {
+                writeln!(f, "error: the keys hold a character that is no hex digit")
+            }
+            Failure::NoSize => writeln!(
                 f,
-                "under padding 3 the file's size is needed first, and this file tells none (a pipe never does)"
+                "error: under padding 3 the file's size is needed first, and this file tells none (a pipe never does)"
             ),
             Failure::Undone(undone) => write!(f, "{undone}"),
-            Failure::Removed(undone) => write!(f, "{undone}\nit is removed again"),
-            Failure::Left(undone) => write!(
+            Failure::Removed(undone) => writeln!(f, "{undone}it is removed again"),
+            Failure::Left(undone) => writeln!(
                 f,
-                "{undone}\nit cannot be removed either: a slip or a part of one may be left in it"
+                "{undone}it cannot be removed either: a slip or a part of one may be left in it"
             ),
         }
     }
@@ -155,9 +159,9 @@ impl fmt::Display for Undone {
     fn fmt<W: fmt::Write>(&self, f: &mut fmt::Formatter<W>) -> fmt::Result {
         match (self.attempt, self.reason) {
             (Attempt::Make, Reason::NoSuchFile) => {
-                write!(f, "the file cannot be made: no such directory")
+                writeln!(f, "error: the file cannot be made: no such directory")
             }
-            (attempt, reason) => write!(f, "{attempt}: {reason}"),
+            (attempt, reason) => writeln!(f, "error: {attempt}: {reason}"),
         }
     }
 }

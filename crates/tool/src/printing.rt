@@ -13,7 +13,7 @@
 //     4096   the file's name
 //     4096   its copy in the call that makes it or removes it
 //     8192   the reader of standard input, though nothing is kept in it
-//     1048   a text as it is printed, 1024, and the digits of a number in it, 24
+//       24   the digits of a number as it is printed
 //      256   a read of the typed keys
 //       75   the slip
 //       65   the amount, the algorithm, the padding or M
@@ -22,7 +22,7 @@
 //       11   the date
 //       16   a word alone, or the word master, and one that is only counted
 //    -----
-//    17954   bytes in all
+//    16930   bytes in all
 use crate::arguments::Words;
 use crate::faults::{Attempt, Fault, Misuse, Quantity};
 use crate::words::{Usage, say, say_contents};
@@ -37,14 +37,16 @@ pub struct Slipprint;
 
 impl Program for Slipprint {
     const USAGE: Usage = Usage {
-        words: "slipprint FILE DATE LOT AMOUNT ALGORITHM PADDING M",
+        words: "slipprint FILE DATE LOT AMOUNT ALGORITHM PADDING M\n",
         what: "    writes a sealed slip into a new file; the keys are hex digits on standard input
     as in: slipprint slip 2026-11-04 A7 500 5 4 64 (500 microlitres, a tag of 64 bits)
 ",
+        words_of_master: "slipprint FILE DATE LOT AMOUNT ALGORITHM PADDING M master\n",
         more: "",
     };
 
     // The slip is made first and then written.
+    #[inline(always)]
     fn try_answer(
         rt: &(impl Files + Print),
         typed: &mut impl Read,

@@ -3,7 +3,8 @@ use crate::faults::{Attempt, Fault, Undone};
 use std::fs::{File, Files};
 use std::io::Read;
 
-// A path is text here.
+// A path is text here. Not inlined, so that its copies of the path are gone when the file is read.
+#[inline(never)]
 pub(crate) fn open<R: Files>(rt: &R, name: &[u8]) -> Result<R::File, Undone> {
     let path = str::from_utf8(name).map_err(|error| Attempt::Open.failed(error))?;
     File::open(rt, path).map_err(|error| Attempt::Open.failed(error))
@@ -19,6 +20,7 @@ pub(crate) enum Reads {
 }
 
 // Reads a file into the room and hands each read on, until the file ends or a read is not taken, so many times at most.
+#[inline(always)]
 pub(crate) fn each<F: FnMut(&[u8]) -> Result<(), Fault>>(
     attempt: Attempt,
     file: &mut impl Read,

@@ -32,6 +32,17 @@ impl<const N: usize> Typed<N> {
         Ok(())
     }
 
+    // The characters of a read, of which blanks, tabs and line ends are passed over. Not inlined, so that its loop keeps to registers.
+    #[inline(never)]
+    fn add_read(&mut self, text: &[u8]) -> Result<(), NoBytes> {
+        for c in text {
+            if !matches!(c, b' ' | b'\t' | b'\r' | b'\n') {
+                self.add(*c)?;
+            }
+        }
+        Ok(())
+    }
+
     // All of it, where no digit is left over.
     fn whole(self) -> Result<ArrayVec<u8, N>, NoBytes> {
         match self.high {
@@ -49,16 +60,12 @@ fn digit(c: u8) -> Option<u8> {
 // The keys, with blanks, tabs and line ends anywhere between their digits. Input of any length and any bytes is answered: it is read
 // through a small buffer to its end, or to its first strange character, which settles the answer. Keys have 16 or 32 bytes, and for 33
 // the library answers as it does for any longer keys, whether a slip is read or written or a certificate is checked.
+#[inline(always)]
 pub(crate) fn keys(file: &mut impl Read) -> Result<ArrayVec<u8, 33>, Fault> {
     let mut typed = Typed::new();
     // No input lasts for so many reads.
     reads::each(Attempt::Keys, file, &mut [0u8; 256], u64::MAX, |text| {
-        for c in text {
-            if !matches!(c, b' ' | b'\t' | b'\r' | b'\n') {
-                typed.add(*c).map_err(Failure::NoKeys)?;
-            }
-        }
-        Ok(())
+        Ok(typed.add_read(text).map_err(Failure::NoKeys)?)
     })?;
     Ok(typed.whole().map_err(Failure::NoKeys)?)
 }

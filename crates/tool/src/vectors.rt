@@ -7,6 +7,7 @@ ghost use Rattle.std.specs.Prelude.{◌≤◌, length};
 use crate::words::say;
 use Data::{One, Two};
 use settings::{Agreement, Outcome};
+use std::fmt::InlineText;
 
 const TEXT: [u8; 32] = *b"This is the test message for mac";
 
@@ -104,11 +105,14 @@ fn run_row(rt: &impl Print, row: &Row) -> bool {
     let is_right = made == tag;
     let m = agreed.m;
     let data = data as u8;
-    let judged = if is_right { "ok" } else { "wrong" };
+    // its digits are one piece, its zeros too
+    let made = InlineText::<16>::of(format_args!("{made:016X}"));
+    let made = made.as_str();
+    let judged = if is_right { " ok\n" } else { " wrong\n" };
     say(
         rt,
         format_args!(
-            "algorithm {algorithm}, padding {padding}, data {data}, {m} bits: {made:016X} {judged}\n"
+            "algorithm {algorithm}, padding {padding}, data {data}, {m} bits: {made}{judged}"
         ),
     );
     is_right
