@@ -4,7 +4,7 @@ use crate::slips::{Answer, Counts};
 use crate::supplier::Supplier;
 use crate::words::Words;
 use anyhow::{Result, ensure};
-use slip::Gathered;
+use slip::{Contents, Date, Gathered};
 use std::array;
 
 // Every beginning of a slip, none and the whole included, as the first read: alone, and with the rest as the second read.
@@ -29,8 +29,11 @@ pub(crate) fn trickled(rt: &impl Print, mut words: Words) -> Result<()> {
     let slip = words.bytes()?;
     let size = words.number()?;
     ensure!(size != 0, "a slip does not come in reads of no bytes");
+    // an empty slip comes in one read, which has no bytes
+    let empty = slip.is_empty().then_some(slip.as_slice());
     let came = slip
         .chunks(size)
+        .chain(empty)
         .fold(Gathered::none(), |came, read| came.add(b"").add(read));
     print!(rt; "{}", answer(&supplier, &came))?;
     Ok(())
@@ -50,14 +53,30 @@ pub(crate) fn record(rt: &impl Print, mut words: Words) -> Result<()> {
     Ok(())
 }
 
-// What a record is answered; the lot is a part of its bytes.
+// What a record is answered; the lot is a part of its bytes, a refused one's too.
 fn answer<'a>(supplier: &Supplier, came: &'a Gathered) -> Answer<'a> {
     let read = supplier.read_gathered(*came);
-    let lot = match read {
-        Ok(read) => slip::lot_in(&came.bytes, read.contents),
-        Err(_) => &came.bytes[..0],
-    };
+    let lot = slip::lot_in(&came.bytes, contents(read.into()));
     Answer { read, lot }
+}
+
+// What a slip says, as it is handed to C: zeros where it is refused.
+fn contents(told: slipseal::Slip) -> Contents {
+    let slipseal::Slip {
+        year,
+        month,
+        day,
+        amount,
+        lot_at,
+        lot_len,
+        ..
+    } = told;
+    Contents {
+        date: Date { year, month, day },
+        amount,
+        lot_at,
+        lot_len,
+    }
 }
 
 // The refusal that the record of these bytes gets; an odd one where it is not their record, and where its answer or lot is not that of

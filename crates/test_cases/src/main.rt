@@ -21,7 +21,7 @@
 //                                         G of N turned: no, where of the N tags with one bit turned G get no with the same calls;
 //                                         then message turned, and the answer for the message with its first bit turned
 //     slip A P M KEYS SLIP                accepted DATE lot LOT at PLACE length BYTES amount AMOUNT calls CALLS, LOT being the part that
-//                                         comes back; or refused N, and "with values" where the part is not empty
+//                                         comes back; or refused N, and "with values" where another field or the part is not empty
 //     changed A P M KEYS SLIP             the slip with each byte changed to every other value: how many are accepted, and how many get
 //                                         which refusal (31: one with values)
 //     prefixes A P M KEYS SLIP            the same for every beginning that is shorter than the slip
@@ -31,12 +31,12 @@
 //     trickled A P M KEYS SLIP SIZE       as slip, gathered from reads of SIZE bytes, 1 to 4096, each after a read of no bytes
 //     record A P M KEYS COUNT BYTES READ  a record of this count and of these bytes, at most 80, zeros after them: as slip, alone
 //                                         and with the read; then its count and bytes with the read
-//     write A P M KEYS YEAR MONTH DAY LOT AMOUNT ROOM   written LENGTH bytes CALLS calls and the room's bytes; or refused N, and
-//                                         whether the room is untouched
+//     write A P M KEYS YEAR MONTH DAY LOT AMOUNT ROOM   written LENGTH bytes CALLS calls and the room's bytes; or refused N, "with values"
+//                                         where length or calls are not 0, and whether the room is untouched
 //
 // Numbers are decimal and below 2^64. M may end in *, as 64*: a master is in use. Bytes are hex digits, and - is no bytes. ROOM is a
-// number of bytes, each EE before the call. The commands from start to same,
-// start_check, finish_check and aim act on one session, closed and zero at the text's first line, and print its phase after their
+// number of bytes, each EE before the call. A refusal's other fields are asked as C is handed them (slipseal). The commands from start
+// to same, start_check, finish_check and aim act on one session, closed and zero at the text's first line, and print its phase after their
 // answer; PHASE is 0 closed, 1 at a byte edge, 2 after a part byte of PART bits, and PURPOSE 0 making, 1 checking. A line whose
 // first word is # is printed alone. Any other line is an error, which ends the run: tests/make-runs stores none that the reference
 // cannot read.

@@ -57,3 +57,8 @@ pub(crate) fn room_kept(room: &[u8]) -> &'static str {
 pub(crate) fn kept(untouched: bool) -> &'static str {
     if untouched { "untouched" } else { "CHANGED" }
 }
+
+// After a refusal's number, where a value comes with it that is not zero.
+pub(crate) fn with_values(has_values: bool) -> &'static str {
+    if has_values { " with values" } else { "" }
+}

@@ -1,6 +1,7 @@
 // Commands on lot slips under what was agreed: one slip read, a slip with each byte changed to every other value, and every beginning
 // of a slip.
 use crate::changes::each_changed;
+use crate::printed::with_values;
 use crate::supplier::Supplier;
 use crate::words::Words;
 use refusals::Refusal;
@@ -68,9 +69,17 @@ impl<'a> Answer<'a> {
     pub(crate) fn refusal(&self) -> Option<usize> {
         match self.read {
             Ok(_) => None,
-            Err(_) if !self.lot.is_empty() => Some(Answer::ODD),
+            Err(_) if self.has_values() => Some(Answer::ODD),
             Err(refusal) => Some(refusal.number()),
         }
+    }
+
+    // Whether another field than the number is not zero, as it is handed to C, or the part is not empty.
+    fn has_values(&self) -> bool {
+        let told = slipseal::Slip::from(self.read);
+        let date = [told.year, told.month, told.day];
+        let others = [told.amount, told.calls, told.lot_at, told.lot_len];
+        date != [0; 3] || others != [0; 4] || !self.lot.is_empty()
     }
 }
 
@@ -79,11 +88,7 @@ impl fmt::Display for Answer<'_> {
         let Slip { calls, contents } = match self.read {
             Ok(slip) => slip,
             Err(refusal) => {
-                let values = if self.lot.is_empty() {
-                    ""
-                } else {
-                    " with values"
-                };
+                let values = with_values(self.has_values());
                 return write!(f, "refused {}{values}", refusal.number());
             }
         };

@@ -1,8 +1,9 @@
 // Lot slips written.
-use crate::printed::{Hex, room_kept};
+use crate::printed::{Hex, room_kept, with_values};
 use crate::words::Words;
 use anyhow::Result;
 use slip::{Date, Printed, Said};
+use slipseal::Written;
 
 pub(crate) fn write(rt: &impl Print, mut words: Words) -> Result<()> {
     let supplier = words.supplier()?;
@@ -16,13 +17,17 @@ pub(crate) fn write(rt: &impl Print, mut words: Words) -> Result<()> {
     let mut room = words.room()?;
     let lot = &lot;
     let said = Said { date, lot, amount };
-    match slip::write(supplier.agreement, &supplier.keys, said, &mut room) {
+    let written = slip::write(supplier.agreement, &supplier.keys, said, &mut room);
+    match written {
         Ok(Printed { length, calls }) => {
             print!(rt; "written {length} bytes {calls} calls {}", Hex(&room))?;
         }
         Err(refusal) => {
             let number = refusal.number();
-            print!(rt; "refused {number} {}", room_kept(&room))?;
+            // as it is handed to C
+            let told = Written::from(written);
+            let values = with_values([told.length, told.calls] != [0; 2]);
+            print!(rt; "refused {number}{values} {}", room_kept(&room))?;
         }
     }
     Ok(())

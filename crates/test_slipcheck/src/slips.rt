@@ -2,6 +2,7 @@
 ghost use Rattle.std.specs.Prelude.{◌≤◌};
 
 use crate::rows;
+use std::io::Read;
 use std::rt::Runtime;
 use std::{fs, io};
 use tool::Words;
@@ -18,11 +19,27 @@ pub(crate) fn check_made(rt: &impl Runtime, first: usize, end: usize) -> io::Res
     Ok(())
 }
 
+// What a slip's file can have, and one byte more.
+const MOST: usize = 76;
+
 // Whether two slips' files have the same bytes.
 pub(crate) fn compare(rt: &impl Runtime, name: &str, other: &str) -> io::Result<()> {
-    let bytes = fs::read(rt, name)?;
-    let other_bytes = fs::read(rt, other)?;
-    let is_same = bytes.as_slice() == other_bytes.as_slice();
+    let is_same = read(rt, name)? == read(rt, other)?;
     let judged = if is_same { "are the same" } else { "differ" };
     println!(rt; "== {name} and {other} {judged}")
+}
+
+// The bytes of a file, as many as there are places, with zeros after them; and how many places are left.
+fn read(rt: &impl Runtime, name: &str) -> io::Result<([u8; MOST], usize)> {
+    let mut file = fs::open(rt, name)?;
+    let mut bytes = [0u8; MOST];
+    let mut rest = bytes.as_mut_slice();
+    for _ in 0..MOST {
+        match file.read(rest)? {
+            0 => break,
+            n => rest = &mut rest[n..],
+        }
+    }
+    let left = rest.len();
+    Ok((bytes, left))
 }
