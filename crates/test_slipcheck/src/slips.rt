@@ -1,5 +1,5 @@
 // The files that slipprint makes: slipcheck on each, and the bytes of some compared with those of stored slips.
-ghost use Rattle.std.specs.Prelude.{◌≤◌};
+ghost use Rattle.std.specs.Prelude.{◌≤◌, IfOk};
 
 use crate::rows;
 use std::io::Read;
@@ -30,7 +30,9 @@ pub(crate) fn compare(rt: &impl Runtime, name: &str, other: &str) -> io::Result<
 }
 
 // The bytes of a file, as many as there are places, with zeros after them; and how many places are left.
-fn read(rt: &impl Runtime, name: &str) -> io::Result<([u8; MOST], usize)> {
+fn read(rt: &impl Runtime, name: &str) -> io::Result<([u8; MOST], usize)>
+    ensures { IfOk result (λ r. r.1 ≤ 76) }
+{
     let mut file = fs::open(rt, name)?;
     let mut bytes = [0u8; MOST];
     let mut rest = bytes.as_mut_slice();
@@ -40,6 +42,6 @@ fn read(rt: &impl Runtime, name: &str) -> io::Result<([u8; MOST], usize)> {
             n => rest = &mut rest[n..],
         }
     }
-    let left = rest.len();
+    let left = rest.len().min(MOST);
     Ok((bytes, left))
 }
